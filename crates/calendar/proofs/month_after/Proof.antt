@@ -1,0 +1,52 @@
+use mathlib.Core.Path.{_≡_, sym, ap, _∙_}
+use Prim.Native.Nat.{ℕ, _+_, _*_, _/_, _%_}
+use native.Mathlib.Omega.{arith}
+use borrow.Author.Needs.{needs}
+use Rattle.calendar.specs.Calendar.{leapYear, total, lengthAfter}
+use Rattle.calendar.specs.Work.{daysBefore}
+use Rattle.calendar.proofs.Years.{month-sum}
+use Rattle.calendar.proofs.Laws.{sum-limit}
+use Rattle.calendar.proofs.month_after.Statement.{statement}
+use Rattle.calendar.proofs.month_after.Tie as tie
+
+-- the years' days and the months' are all of them
+sums : (c : tie.After-days-before) → c .before .before .years-before .result + c .days-before .result ≡ total lengthAfter (c .before .before .before .args .i)
+sums c =
+    let i = c .before .before .before .args .i in
+    let e : 12 * (i / 12) + i % 12 ≡ i = omega arith in
+    let s = rw e at (month-sum (i / 12) (i % 12) (omega arith)) in
+    let b = rw (c .before .leap .ensures) at (c .days-before .ensures) in
+    omega (arith, c .before .before .years-before .ensures)
+
+years-before-requires : tie.Need-years-before-requires
+years-before-requires c κs = search needs
+
+add-leap : tie.Need-add-leap
+add-leap c = search needs
+
+leap-requires : tie.Need-leap-requires
+leap-requires c κs = search needs
+
+add-days-before : tie.Need-add-days-before
+add-days-before c = search needs
+
+days-before-requires : tie.Need-days-before-requires
+days-before-requires c κs = search needs
+
+add-result : tie.Need-add-result
+add-result c = omega (arith, sums c, sum-limit (c .before .before .before .args .i))
+
+returns : tie.Need-returns
+returns c = sums c
+
+pub month-after-spec : {M : Type 1} → statement M
+month-after-spec =
+    tie.close
+    (tie.spec
+    years-before-requires
+    add-leap
+    leap-requires
+    add-days-before
+    days-before-requires
+    add-result
+    returns)
