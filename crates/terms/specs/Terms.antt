@@ -1,0 +1,24 @@
+-- The limits of the opening terms (document 01, "Opening terms").
+use Prim.Native.Nat.{ℕ}
+use mathlib.Core.Bool.{Bool, cond, _&&_}
+use lib.Dec.{leb}
+use Rattle.calendar.specs.Calendar.{opens}
+use Rattle.terms.specs.declared.Terms.{Terms}
+
+-- low ≤ n ≤ high
+abbrev pub within : ℕ → ℕ → ℕ → Bool
+within low high n = leb low n && leb n high
+
+-- "`open`: a Gregorian date, years 2000 to 2099"; "`price`: 1 to 99,999"; "`connect`: 0 to 7,500";
+-- "`cutoff`: 0 to 1,000 and at most `connect`"; "`share`: 0 to 50".
+unfoldable pub validTerms : Terms → Bool
+validTerms t =
+    opens (t .opened)
+    && (within 1 99999 (t .price)
+    && (leb (t .connect) 7500
+    && ((leb (t .cutoff) 1000 && leb (t .cutoff) (t .connect))
+    && leb (t .share) 50)))
+
+-- "1: terms outside their limits"; 0 is within them.
+unfoldable pub termsCode : Terms → ℕ
+termsCode t = cond (validTerms t) 0 1

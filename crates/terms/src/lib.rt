@@ -1,0 +1,44 @@
+// The opening terms of an account and their limits. It uses the calendar. Its promise cites specs/Terms.antt.
+use calendar::Date;
+ghost use mathlib.Core.Path.{_≡_};
+ghost use Rattle.terms.specs.Terms.{termsCode};
+
+pub struct Terms {
+    pub opened: Date,
+    // hundredths of a cent per kWh
+    pub price: u32,
+    // the connection and the disconnection balance, in cents
+    pub connect: u32,
+    pub cutoff: u32,
+    // per cent of a payment that goes to a deferred payment plan
+    pub share: u32,
+}
+
+// 0, or 1 where the terms are outside their limits.
+pub fn check(t: Terms) -> u8
+    ensures { λ r. ⌜ r ≡ termsCode t ⌝ }
+{
+    let opened = t.opened;
+    if !calendar::can_open(opened) {
+        return 1;
+    }
+    if t.price < 1 {
+        return 1;
+    }
+    if t.price > 99999 {
+        return 1;
+    }
+    if t.connect > 7500 {
+        return 1;
+    }
+    if t.cutoff > 1000 {
+        return 1;
+    }
+    if t.cutoff > t.connect {
+        return 1;
+    }
+    if t.share > 50 {
+        return 1;
+    }
+    0
+}
