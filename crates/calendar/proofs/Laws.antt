@@ -1,24 +1,22 @@
 -- The calendar's laws: how its dates, days and months are counted. Assumes nothing.
-use mathlib.Core.Path.{_≡_, refl, sym, _∙_, ap, ap₂, subst}
+use mathlib.Core.Path.{_≡_, refl, _∙_, ap, ap₂}
 use mathlib.Core.Bool.{Bool, true, false, cond, _&&_}
 use mathlib.Core.Logic.{_↔_}
 use Prim.Native.Nat.{ℕ, zero, suc, _+_, _*_, _-_, _/_, _%_, _≤_, _<_, zero-le}
-use native.Mathlib.Nat.{le-of-eq, le-trans, add-zero}
+use native.Mathlib.Nat.{le-trans, add-zero}
 use native.Mathlib.Omega.{arith}
-use native.Mathlib.Numerals.{add-one}
-use mathlib.Core.List.{List}
-use lib.ListN.{length, getD, List·getD-eq-default}
+use lib.ListN.{List·getD-eq-default}
 use lib.Dec.{leb, ltb, eqb}
-use borrow.Author.Tests.{ltb-true, ltb-false, leb-true, leb-false, eqb-true, eqb-false, le-leb, lt-ltb}
+use borrow.Author.Tests.{ltb-true, ltb-false, leb-true, leb-false, eqb-true, eqb-false, le-leb}
 use Rattle.calendar.specs.Calendar.{on, leapYear, monthDays, monthLength, isDate, nextOf, dateOn, total, lengthAfter}
 use Rattle.calendar.specs.Calendar.{monthsAfter, daysAfter, weekdayAfter, weekdayOf, monthFrom, opens, reached, isDay, dateAnswer}
 use Rattle.calendar.specs.declared.Date.{Date}
 use Rattle.calendar.specs.declared.Dated.the-variants as dated
-use Rattle.calendar.proofs.Sums.{decide, and-left, and-right, leb-and, every, every-at, total-mono, InPiece, piece-mono, piece-unique}
+use Rattle.calendar.proofs.Sums.{decide, and-left, and-right, leb-and, every, every-at, total-mono, Within, within-mono, within-unique}
 
 -- ---- the lengths of the months
 
--- month j + 1 has 28 to 31 days
+-- a month has 28 to 31 days
 record Length (n : ℕ) : Type 0 where
   least : 28 ≤ n
   most : n ≤ 31
@@ -48,7 +46,7 @@ unfolding total
 sum-limit zero = omega arith
 sum-limit (suc i) = omega (arith, sum-limit i, length-after i)
 
--- only months 1 to 12 have days
+-- there are no months after 12, and none before 1
 pub no-days : (leap : Bool) (m : ℕ) → 12 < m → monthDays leap m ≡ 0
 no-days leap m h = rw List·getD-eq-default
 
@@ -57,7 +55,7 @@ has-days leap zero h = omega arith
 has-days leap (suc m) h =
     (omega arith, decide (leb (suc m) 12) (leb-true (suc m) 12) (λ t. omega (arith, no-days leap (suc m) (leb-false (suc m) 12 t))))
 
--- ---- dates of 2000 and later
+-- ---- dates from 2000 on
 
 pub record Real (d : Date) : Type 0 where
   pub since : 2000 ≤ d .year
@@ -74,7 +72,7 @@ real d h e =
     let m = has-days (leapYear (d .year)) (d .month) (le-trans (low .0) high) in
     record { since = h; month-low = m .0; month-high = m .1; day-low = low .0; day-high = high }
 
--- such a date that lies no later than the year y
+-- such a date in the year y or before
 pub record RealTo (y : ℕ) (d : Date) : Type 0 where
   pub real : Real d
   pub until : d .year ≤ y
@@ -93,6 +91,7 @@ pub reached-real : (d : Date) → reached d ≡ true → RealTo 2101 d
 unfolding reached
 reached-real d e = real-to 2101 d e
 
+-- and back
 pub real-reached : (d : Date) → Real d → d .year ≤ 2101 → reached d ≡ true
 unfolding reached isDate
 real-reached d r h = simp (le-leb 2000 (d .year) (r .since), le-leb (d .year) 2101 h, le-leb 1 (d .day) (r .day-low), le-leb (d .day) (monthLength (d .year) (d .month)) (r .day-high))
@@ -107,11 +106,12 @@ index-length : (d : Date) → Real d → lengthAfter (monthsAfter d) ≡ monthLe
 unfolding lengthAfter
 index-length d r = ap₂ monthLength (omega arith) (omega arith)
 
--- the day after
+-- e is the day after d
 pub record Next (d e : Date) : Type 0 where
   pub real : Real e
   pub later : daysAfter e ≡ suc (daysAfter d)
 
+-- within a month
 same-month : (d : Date) → Real d → d .day < monthLength (d .year) (d .month) → Next d (on (d .year) (d .month) (d .day + 1))
 unfolding daysAfter
 same-month d r h = record {
@@ -119,6 +119,7 @@ same-month d r h = record {
   later = omega arith;
 }
 
+-- from the last day of a month to the first of the next
 new-month : (d : Date) (y m : ℕ) → Real d → monthLength (d .year) (d .month) ≤ d .day → 2000 ≤ y → 1 ≤ m → m ≤ 12 → monthsAfter (on y m 1) ≡ suc (monthsAfter d) → Next d (on y m 1)
 unfolding daysAfter total
 new-month d y m r h hy hm hm′ e = record {
@@ -126,7 +127,8 @@ new-month d y m r h hy hm hm′ e = record {
   later = rw e (omega (arith, index-length d r));
 }
 
-next-real : (d : Date) → Real d → Next d (nextOf d)
+-- the day after a date is one day later
+pub next-real : (d : Date) → Real d → Next d (nextOf d)
 unfolding nextOf
 next-real d r = decide (ltb (d .day) (monthLength (d .year) (d .month)))
     (λ t. rw t (same-month d r (ltb-true _ _ t)))
@@ -134,7 +136,7 @@ next-real d r = decide (ltb (d .day) (monthLength (d .year) (d .month)))
     (λ u. let l = ltb-true (d .month) 12 u in rw u (new-month d (d .year) (d .month + 1) r (ltb-false _ _ t) (omega arith) (omega arith) (omega arith) (omega arith)))
     (λ u. let l = ltb-false (d .month) 12 u in rw u (new-month d (d .year + 1) 1 r (ltb-false _ _ t) (omega arith) (omega arith) (omega arith) (omega arith)))))
 
--- day k is a date, k days after the opening
+-- day k is a date, and is k days after the opening date
 pub record Day (o : Date) (k : ℕ) : Type 0 where
   pub real : Real (dateOn o k)
   pub later : daysAfter (dateOn o k) ≡ daysAfter o + k
@@ -147,8 +149,8 @@ day-real o r (suc k) =
     let n = next-real (dateOn o k) (d .real) in
     record { real = n .real; later = n .later ∙ omega arith }
 
--- a date's month holds its day
-pub month-holds : (d : Date) → Real d → InPiece lengthAfter (monthsAfter d) (daysAfter d)
+-- a date lies in its month
+pub month-holds : (d : Date) → Real d → Within lengthAfter (monthsAfter d) (daysAfter d)
 unfolding daysAfter total
 month-holds d r = omega (arith, index-length d r)
 
@@ -157,11 +159,11 @@ days-limit d e =
     let r = reached-real d e in
     omega (arith, month-holds d (r .real), sum-limit (suc (monthsAfter d)))
 
--- two dates as many days after 2000-01-01 are the same
+-- dates with the same number of days after 2000-01-01 are the same
 pub same-day : (a b : Date) → Real a → Real b → daysAfter a ≡ daysAfter b → a ≡ b
 unfolding daysAfter
 same-day a b ra rb e =
-    let i = piece-unique lengthAfter (monthsAfter a) (monthsAfter b) (daysAfter a) (month-holds a ra) (rw e (month-holds b rb)) in
+    let i = within-unique lengthAfter (monthsAfter a) (monthsAfter b) (daysAfter a) (month-holds a ra) (rw e (month-holds b rb)) in
     let y : a .year ≡ b .year = omega arith in
     let m : a .month ≡ b .month = omega arith in
     let d : a .day ≡ b .day = omega (arith, ap (total lengthAfter) i) in
@@ -187,7 +189,7 @@ weekday-next o h k = rw (next-real (dateOn o k) (day-real o (opens-real o h .rea
 
 -- ---- months
 
--- the months to a date, counted from that of an earlier one
+-- the month of a date counted from that of an earlier one
 month-from : (o d : Date) → Real o → Real d → monthFrom o d ≡ monthsAfter d - monthsAfter o
 unfolding monthFrom
 month-from o d r s = omega arith
@@ -227,24 +229,25 @@ pub day-limits : (o : Date) (k : ℕ) → isDay o k ≡ true → InLimits o k
 day-limits o k e = let t = and-left (opens o) (leb k 399) e in record { open-is = t; opened = opens-real o t; limit = leb-true k 399 (and-right (opens o) (leb k 399) e) }
 
 module _ (o : Date) (r : Real o) where
-  -- the month that holds day k
-  day-month : (k : ℕ) → InPiece lengthAfter (monthsAfter (dateOn o k)) (daysAfter o + k)
+  -- day k lies in its month
+  day-month : (k : ℕ) → Within lengthAfter (monthsAfter (dateOn o k)) (daysAfter o + k)
   day-month k = let d = day-real o r k in rw (d .later) at (month-holds (dateOn o k) (d .real))
 
   index-mono : (j k : ℕ) → j ≤ k → monthsAfter (dateOn o j) ≤ monthsAfter (dateOn o k)
-  index-mono j k h = piece-mono lengthAfter (monthsAfter (dateOn o j)) (monthsAfter (dateOn o k)) (daysAfter o + j) (daysAfter o + k) (day-month j) (day-month k) (omega arith)
+  index-mono j k h = within-mono lengthAfter (monthsAfter (dateOn o j)) (monthsAfter (dateOn o k)) (daysAfter o + j) (daysAfter o + k) (day-month j) (day-month k) (omega arith)
 
-  -- the month of day k
+  -- day k's month, counted from January 2000
   pub month-index : (k : ℕ) → monthsAfter (dateOn o k) ≡ monthsAfter o + monthFrom o (dateOn o k)
   unfolding dateOn
   month-index k = omega (arith, index-mono 0 k zero-le, month-from o (dateOn o k) r (day-real o r k .real))
 
-  -- day k lies in month m where its number lies between the first days of months m and m + 1
-  pub month-is : (k m : ℕ) → (monthFrom o (dateOn o k) ≡ m) ↔ InPiece lengthAfter (monthsAfter o + m) (daysAfter o + k)
+  -- day k is one of month m's days: not before the first of month m, and before that of month m + 1
+  pub month-is : (k m : ℕ) → (monthFrom o (dateOn o k) ≡ m) ↔ Within lengthAfter (monthsAfter o + m) (daysAfter o + k)
   month-is k m =
-      let i = month-index k in
-      (λ e. rw (i, e) at (day-month k),
-      λ p. omega (arith, piece-unique lengthAfter (monthsAfter (dateOn o k)) (monthsAfter o + m) (daysAfter o + k) (day-month k) p))
+      let i = month-index k in (
+        λ e. rw (i, e) at (day-month k),
+        λ p. omega (arith, within-unique lengthAfter (monthsAfter (dateOn o k)) (monthsAfter o + m) (daysAfter o + k) (day-month k) p),
+      )
 
 -- the months do not fall
 pub month-mono : (o : Date) → opens o ≡ true → (j k : ℕ) → j ≤ k → monthFrom o (dateOn o j) ≤ monthFrom o (dateOn o k)
@@ -252,7 +255,7 @@ month-mono o h j k l =
     let r = opens-real o h .real in
     omega (arith, index-mono o r j k l, month-index o r j, month-index o r k)
 
--- day 399 lies in month 14 or before
+-- an account has months 0 to 14: after the opening month, 14 months have at least 7 * 59 = 413 days
 pub month-limit : (o : Date) (k : ℕ) → isDay o k ≡ true → monthFrom o (dateOn o k) ≤ 14
 month-limit o k e =
     let d = day-limits o k e in
@@ -262,6 +265,7 @@ month-limit o k e =
     let l = total-mono lengthAfter (suc (monthsAfter o) + 14) (monthsAfter o + m) (omega (arith, leb-false m 14 t)) in
     omega (arith, pairs-after (suc (monthsAfter o)) 7, month-holds o r, month-is o r k m .0 refl)))
 
+-- the calendar reaches every day of an account
 pub day-reached : (o : Date) (k : ℕ) → isDay o k ≡ true → reached (dateOn o k) ≡ true
 day-reached o k e =
     let d = day-limits o k e in

@@ -2,8 +2,8 @@
 use mathlib.Core.Path.{_≡_, refl, ap, subst⁻¹}
 use mathlib.Core.Bool.{Bool, true, false, _&&_, false≢true}
 use mathlib.Core.List.{List}
-use mathlib.Core.Logic.{_⊎_, inl, inr}
-use Prim.Native.Nat.{ℕ, zero, suc, _+_, _≤_, _<_}
+use mathlib.Core.Logic.{inl, inr}
+use Prim.Native.Nat.{ℕ, zero, suc, _≤_, _<_}
 use native.Mathlib.Nat.{eq-or-lt-of-le, le-of-eq, le-of-suc-le-suc, not-suc-le-zero, le-antisymm, le-refl}
 use native.Mathlib.Omega.{arith}
 use lib.ListN.{getD}
@@ -37,11 +37,11 @@ every p (suc n) = p n && every p n
 pub every-at : (p : ℕ → Bool) (n : ℕ) → every p n ≡ true → (k : ℕ) → k < n → p k ≡ true
 every-at p zero e k h = absurd (not-suc-le-zero h)
 every-at p (suc n) e k h = elim (eq-or-lt-of-le (le-of-suc-le-suc h)) [
-      inl s ↦ subst⁻¹ (λ (j : ℕ). p j ≡ true) s (and-left (p n) (every p n) e)
-    | inr l ↦ every-at p n (and-right (p n) (every p n) e) k l
-  ]
+  | inl s ↦ subst⁻¹ (λ (j : ℕ). p j ≡ true) s (and-left (p n) (every p n) e)
+  | inr l ↦ every-at p n (and-right (p n) (every p n) e) k l
+]
 
--- a table l of a function f's first n values
+-- the list l begins with the first n values of the function f
 abbrev pub is-table : (ℕ → ℕ) → List ℕ → ℕ → Bool
 is-table f l n = every (λ (k : ℕ). eqb (getD l k 0) (f k)) n
 
@@ -57,17 +57,18 @@ module _ (f : ℕ → ℕ) where
   total-mono zero zero h = le-refl 0
   total-mono (suc i) zero h = absurd (not-suc-le-zero h)
   total-mono i (suc j) h = elim (eq-or-lt-of-le h) [
-        inl e ↦ le-of-eq (ap (total f) e)
-      | inr l ↦ let p = total-mono i j (le-of-suc-le-suc l) in omega arith
-    ]
+    | inl e ↦ le-of-eq (ap (total f) e)
+    | inr l ↦ let p = total-mono i j (le-of-suc-le-suc l) in omega arith
+  ]
 
-  -- n lies in the a-th of the pieces f 0, f 1, .. laid end to end
-  abbrev pub InPiece : ℕ → ℕ → Type 0
-  InPiece a n = (total f a ≤ n) × (n < total f (suc a))
+  -- n is at least the sum of the first a values, and below that of the first a + 1
+  abbrev pub Within : ℕ → ℕ → Type 0
+  Within a n = (total f a ≤ n) × (n < total f (suc a))
 
-  -- a number in an earlier piece is the smaller
-  pub piece-mono : (a b n m : ℕ) → InPiece a n → InPiece b m → n ≤ m → a ≤ b
-  piece-mono a b n m p q h = decide (leb a b) (λ t. leb-true a b t) (λ t. absurd (let l = total-mono (suc b) a (leb-false a b t) in omega arith))
+  -- of two numbers the smaller lies no later
+  pub within-mono : (a b n m : ℕ) → Within a n → Within b m → n ≤ m → a ≤ b
+  within-mono a b n m p q h = decide (leb a b) (leb-true a b) (λ t. absurd (let l = total-mono (suc b) a (leb-false a b t) in omega arith))
 
-  pub piece-unique : (a b n : ℕ) → InPiece a n → InPiece b n → a ≡ b
-  piece-unique a b n p q = le-antisymm (piece-mono a b n n p q (le-refl n)) (piece-mono b a n n q p (le-refl n))
+  -- a number lies in one place alone
+  pub within-unique : (a b n : ℕ) → Within a n → Within b n → a ≡ b
+  within-unique a b n p q = le-antisymm (within-mono a b n n p q (le-refl n)) (within-mono b a n n q p (le-refl n))

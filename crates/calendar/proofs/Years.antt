@@ -1,20 +1,20 @@
 -- The days before a month and before a year, as the code counts them. Assumes nothing.
-use mathlib.Core.Path.{_≡_, refl, sym, _∙_, ap, ap₂}
-use mathlib.Core.Bool.{Bool, true, false, cond, _&&_}
+use mathlib.Core.Path.{_≡_, refl, _∙_}
+use mathlib.Core.Bool.{Bool, true, false, cond}
 use Prim.Native.Nat.{ℕ, zero, suc, _+_, _*_, _-_, _/_, _%_, _≤_, _<_}
 use native.Mathlib.Nat.{add-zero}
 use native.Mathlib.Numerals.{add-one}
 use native.Mathlib.Omega.{arith}
 use lib.Dec.{leb, ltb, eqb}
 use borrow.Author.Tests.{ltb-true, ltb-false, leb-true, eqb-true, le-leb}
-use Rattle.calendar.specs.Calendar.{on, leapYear, monthDays, monthLength, isDate, total, lengthAfter, daysAfter, monthsAfter, dateOn}
+use Rattle.calendar.specs.Calendar.{on, leapYear, monthDays, monthLength, isDate, total, lengthAfter, daysAfter, dateOn}
 use Rattle.calendar.specs.Work.{daysBefore, yearLength, carry, InYear}
 use Rattle.calendar.specs.declared.Date.{Date}
 use Rattle.calendar.specs.declared.Place.{Place}
-use Rattle.calendar.proofs.Sums.{decide, every, every-at, leb-and, total-mono}
+use Rattle.calendar.proofs.Sums.{decide, every, every-at, total-mono}
 use Rattle.calendar.proofs.Laws.{Real, RealTo, real, day-real, same-day}
 
--- ---- one year
+-- ---- the months of a year
 
 before-next : (leap : Bool) (m : ℕ) → daysBefore leap (m + 1) ≡ daysBefore leap m + monthDays leap m
 unfolding daysBefore total
@@ -46,6 +46,7 @@ length-in n j h =
     let m : (12 * n + j) % 12 ≡ j = omega arith in
     rw (y, m)
 
+-- the days before month j + 1 of that year
 pub month-sum : (n j : ℕ) → j ≤ 12 → total lengthAfter (12 * n + j) ≡ total lengthAfter (12 * n) + daysBefore (leapYear (2000 + n)) (j + 1)
 unfolding total daysBefore
 month-sum n zero h = rw (add-zero (12 * n)) (omega arith)
@@ -62,7 +63,7 @@ year-sum n =
 
 -- ---- years
 
--- the days of the n years from 2000: every fourth year has one more, but not 2100
+-- the days of the n years from 2000: each has 365, and every fourth from 2000 on one more, but not 2100
 abbrev pub yearsTo : ℕ → ℕ
 yearsTo n = cond (ltb 100 n) (n * 365 + (n + 3) / 4 - 1) (n * 365 + (n + 3) / 4)
 
@@ -80,6 +81,7 @@ years-sum (suc n) h = rw (← add-one n) (year-sum n ∙ omega (arith, years-sum
 
 -- ---- the date of a day of a year
 
+-- the day lies in month m where it lies between the first of m and of m + 1
 pub in-year : (y left m : ℕ) → m ≤ 12 → daysBefore (leapYear y) m ≤ left → left < daysBefore (leapYear y) (m + 1) → InYear y left (on y m (left - daysBefore (leapYear y) m + 1))
 unfolding isDate monthLength
 in-year y left m h l u =
@@ -122,7 +124,7 @@ pub guess-next : (leap : Bool) (left : ℕ) → left / 32 + 1 < 12 → left < da
 guess-next leap left h =
     omega (arith, leb-true (32 * (left / 32 + 1)) (daysBefore leap (left / 32 + 1 + 1 + 1)) (every-at (ends leap) 11 (all-end leap) (left / 32) (omega arith)))
 
--- nothing comes after December
+-- December is the last month
 pub guess-last : (y left : ℕ) → left < yearLength y → 12 ≤ left / 32 + 1 → left < daysBefore (leapYear y) (left / 32 + 1 + 1)
 unfolding yearLength
 guess-last y left h l =
@@ -134,6 +136,7 @@ guess-last y left h l =
 abbrev pub dayOf : Place → ℕ
 dayOf p = total lengthAfter (12 * (p .year - 2000)) + p .left
 
+-- q is the same day as p, and is nearer to lying in its year by a year
 pub record Carried (p q : Place) : Type 0 where
   pub low : p .year ≤ q .year
   pub high : q .year ≤ p .year + 1
@@ -164,7 +167,7 @@ place-of d r =
     let s = rw (y, m) at (month-sum (d .year - 2000) (d .month - 1) (omega arith)) in
     omega arith
 
--- are fewer than the year's
+-- those days are fewer than the year's
 pub place-below : (d : Date) → Real d → daysBefore (leapYear (d .year)) (d .month) + (d .day - 1) < yearLength (d .year)
 unfolding yearLength monthLength
 place-below d r =
@@ -195,7 +198,7 @@ module _ (o : Date) (r : RealTo 2099 o) (k : ℕ) (h : k ≤ 399) where
   twice : Carried (carry (placeOf o k)) (carry (carry (placeOf o k)))
   twice = carry-keeps (carry (placeOf o k)) (omega (arith, once .low))
 
-  -- two whole years are enough
+  -- two years taken out are enough
   pub twice-left : carry (carry (placeOf o k)) .left < yearLength (carry (carry (placeOf o k)) .year)
   twice-left = let l = twice .room 34 (once .room 399 (omega (arith, place-below o (r .real)))) in omega arith
 

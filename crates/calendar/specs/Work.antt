@@ -1,11 +1,10 @@
 -- What the calendar's private functions answer. No promise to others cites these.
-use Prim.Native.Nat.{ℕ, _+_, _*_, _-_, _≤_, min}
+use Prim.Native.Nat.{ℕ, _+_, _-_, _≤_, min}
 use mathlib.Core.Path.{_≡_}
 use mathlib.Core.Bool.{Bool, true, cond}
 use lib.Dec.{ltb}
 use Rattle.calendar.specs.Calendar.{leapYear, monthDays, isDate, total, lengthAfter, monthsAfter, daysAfter}
 use Rattle.calendar.specs.declared.Date.{Date}
-use Rattle.calendar.specs.declared.Days.{Days}
 use Rattle.calendar.specs.declared.Place.{Place}
 
 -- the sum of the earlier months' lengths

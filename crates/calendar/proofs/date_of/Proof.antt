@@ -12,17 +12,18 @@ use Rattle.calendar.proofs.Years.{placeOf, year-range, place-below, onc
 use Rattle.calendar.proofs.date_of.Statement.{statement}
 use Rattle.calendar.proofs.date_of.Tie as tie
 
-is : (c : tie.Else1) → opens (c .before .before .args .opened) ≡ true
-is c = sym (c .before .can-open .ensures) ∙ not-false _ (c .if1 .left)
+open-is : (c : tie.Else1) → opens (c .before .before .args .opened) ≡ true
+open-is c = sym (c .before .can-open .ensures) ∙ not-false _ (c .if1 .left)
 
 known : (c : tie.Else2) → RealTo 2099 (c .before .before .before .args .opened)
-known c = opens-real (c .before .before .before .args .opened) (is (c .before))
+known c = opens-real (c .before .before .before .args .opened) (open-is (c .before))
 
 left-limit : (c : tie.After-struct-known) → c .before .days-before .result + (c .before .before .before .before .before .before .args .opened .day - 1) < 366
 left-limit c =
     let o = c .before .before .before .before .before .before .args .opened in
     omega (arith, rw (c .before .before .leap .ensures) at (c .before .days-before .ensures), place-below o (known (c .before .before .before) .real), year-range (o .year))
 
+-- the place after one year is taken out, and after two
 once : (c : tie.After-carried) → c .carried .result ≡ carry (placeOf (c .before .before .before .before .before .before .before .args .opened) (c .before .before .before .before .before .before .before .args .k))
 once c = rw (c .before .before .days-before .ensures, c .before .before .before .leap .ensures) at (c .carried .ensures)
 
@@ -36,7 +37,7 @@ returns : tie.Need-returns
 returns c = simp (sym (c .before .can-open .ensures) ∙ not-true _ (c .if1 .taken))
 
 returns-2 : tie.Need-returns-2
-returns-2 c = simp (is (c .before), lt-leb _ _ (c .if2 .taken))
+returns-2 c = simp (open-is (c .before), lt-leb _ _ (c .if2 .taken))
 
 leap-requires : tie.Need-leap-requires
 leap-requires c κs = search needs
@@ -57,23 +58,23 @@ carried-requires : tie.Need-carried-requires
 carried-requires c κs = omega (arith, known (c .before .before .before))
 
 carried-requires-2 : tie.Need-carried-requires-2
-carried-requires-2 c κs = 
+carried-requires-2 c κs =
     let b = c .before .before .before .before in
     let a = b .before .before .before .args in
     rw (once c) (once-year (a .opened) (known b) (a .k) (b .if2 .left))
 
 date-in-requires : tie.Need-date-in-requires
-date-in-requires c κs = 
+date-in-requires c κs =
     let b = c .before .before .before .before .before in
     let a = b .before .before .before .args in
     rw (twice c) (twice-left (a .opened) (known b) (a .k) (b .if2 .left))
 
 returns-3 : tie.Need-returns-3
-returns-3 c = 
+returns-3 c =
     let b = c .before .before .before .before .before .before in
     let a = b .before .before .before .args in
     let i : InYear (carry (carry (placeOf (a .opened) (a .k))) .year) (carry (carry (placeOf (a .opened) (a .k))) .left) (c .date-in .result) = rw (twice (c .before)) at (c .date-in .ensures) in
-    simp (is (b .before), le-leb _ _ (b .if2 .left)) (ap On (date-is (a .opened) (known b) (a .k) (b .if2 .left) (c .date-in .result) i))
+    simp (open-is (b .before), le-leb _ _ (b .if2 .left)) (ap On (date-is (a .opened) (known b) (a .k) (b .if2 .left) (c .date-in .result) i))
 
 pub date-of-spec : {M : Type 1} → statement M
 date-of-spec =

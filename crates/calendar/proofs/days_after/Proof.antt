@@ -1,4 +1,3 @@
-use mathlib.Core.Path.{_≡_}
 use native.Mathlib.Omega.{arith}
 use Rattle.calendar.specs.Calendar.{daysAfter}
 use Rattle.calendar.proofs.Laws.{RealTo, reached-real, days-limit}

@@ -1,14 +1,13 @@
 use mathlib.Core.Path.{_≡_, _∙_, sym, refl}
-use mathlib.Core.Bool.{true, false}
-use mathlib.Core.Bool.{false≢true}
+use mathlib.Core.Bool.{true, false≢true}
 use mathlib.Core.Logic.{_↔_}
 use Prim.Native.Nat.{ℕ, suc, _+_, _≤_, _<_}
 use borrow.Author.Tests.{not-true, not-false}
 use native.Mathlib.Omega.{arith}
 use borrow.Author.Needs.{needs}
-use Rattle.calendar.specs.Calendar.{opens, isDay, dateOn, monthFrom, monthsAfter, total, lengthAfter, MonthAnswer}
+use Rattle.calendar.specs.Calendar.{opens, isDay, dateOn, monthFrom, monthsAfter, lengthAfter, MonthAnswer}
 use Rattle.calendar.specs.Work.{monthStart}
-use Rattle.calendar.proofs.Laws.{day-limits, opens-real, month-is, month-limit}
+use Rattle.calendar.proofs.Laws.{day-limits, month-is, month-limit}
 use Rattle.calendar.proofs.Sums.{total-mono}
 use Rattle.calendar.specs.declared.Date.{Date}
 use Rattle.calendar.proofs.days_of.Statement.{statement}
@@ -27,7 +26,7 @@ empty o m h = record {
   closed = λ _. refl;
 }
 
--- month m lies from its start to that of month m + 1
+-- the days of month m are those from its start to that of month m + 1
 span : (o : Date) (m k : ℕ) → isDay o k ≡ true → (monthFrom o (dateOn o k) ≡ m) ↔ ((monthStart o m ≤ k) × (k < monthStart o (m + 1)))
 unfolding monthStart
 span o m k e =
@@ -65,12 +64,12 @@ month-start-requires-2 : tie.Need-month-start-requires-2
 month-start-requires-2 c κs = (open-is (c .before .before), omega arith)
 
 returns-3 : tie.Need-returns-3
-returns-3 c = 
+returns-3 c =
     let a = c .before .before .before .before .before .before .args in
     empty (a .opened) (a .m) (λ k e d. let s = span (a .opened) (a .m) k e .0 d in omega (arith, c .if3 .taken, c .before .month-start2 .ensures, c .before .before .month-start .ensures))
 
 returns-4 : tie.Need-returns-4
-returns-4 c = 
+returns-4 c =
     let a = c .before .before .before .before .before .before .args in
     rw (c .before .month-start2 .ensures, c .before .before .month-start .ensures)
     (spanned (a .opened) (a .m) (open-is (c .before .before .before .before)) (λ e. c .if3 .left (c .before .before .month-start .ensures ∙ (e ∙ sym (c .before .month-start2 .ensures)))))

@@ -1,9 +1,8 @@
-use mathlib.Core.Path.{_≡_, sym, ap, _∙_}
-use Prim.Native.Nat.{ℕ, _+_, _*_, _/_, _%_}
+use mathlib.Core.Path.{_≡_}
+use Prim.Native.Nat.{_+_, _*_, _/_, _%_}
 use native.Mathlib.Omega.{arith}
 use borrow.Author.Needs.{needs}
-use Rattle.calendar.specs.Calendar.{leapYear, total, lengthAfter}
-use Rattle.calendar.specs.Work.{daysBefore}
+use Rattle.calendar.specs.Calendar.{total, lengthAfter}
 use Rattle.calendar.proofs.Years.{month-sum}
 use Rattle.calendar.proofs.Laws.{sum-limit}
 use Rattle.calendar.proofs.month_after.Statement.{statement}

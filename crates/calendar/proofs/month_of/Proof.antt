@@ -1,4 +1,4 @@
-use mathlib.Core.Path.{_≡_, _∙_, sym}
+use mathlib.Core.Path.{_∙_, sym}
 use native.Mathlib.Omega.{arith}
 use borrow.Author.Needs.{needs}
 use Rattle.calendar.specs.Calendar.{dateOn, monthFrom}
@@ -6,14 +6,14 @@ use Rattle.calendar.proofs.Laws.{Answered, answer-on, answer-outside, I
 use Rattle.calendar.proofs.month_of.Statement.{statement}
 use Rattle.calendar.proofs.month_of.Tie as tie
 
-is : (c : tie.After-d) → Answered (c .before .before .before .args .opened) (c .before .before .before .args .k) (c .d .given .0 .0)
-is c = answer-on _ _ _ (sym (c .before .before .date-of .ensures) ∙ c .d .given .1)
+answered : (c : tie.After-d) → Answered (c .before .before .before .args .opened) (c .before .before .before .args .k) (c .d .given .0 .0)
+answered c = answer-on _ _ _ (sym (c .before .before .date-of .ensures) ∙ c .d .given .1)
 
 opened : (c : tie.After-d) → InLimits (c .before .before .before .args .opened) (c .before .before .before .args .k)
-opened c = day-limits _ _ (is c .is-day)
+opened c = day-limits _ _ (answered c .is-day)
 
 real-on : (c : tie.After-d) → RealTo 2101 (dateOn (c .before .before .before .args .opened) (c .before .before .before .args .k))
-real-on c = reached-real _ (day-reached _ _ (is c .is-day))
+real-on c = reached-real _ (day-reached _ _ (answered c .is-day))
 
 date-of-requires : tie.Need-date-of-requires
 date-of-requires c κs = search needs
@@ -22,10 +22,10 @@ enum-known-d : tie.Need-enum-known-d
 enum-known-d c = search needs
 
 mul-result : tie.Need-mul-result
-mul-result c = rw (← is (c .before .before) .date) (omega (arith, real-on (c .before .before)))
+mul-result c = rw (← answered (c .before .before) .date) (omega (arith, real-on (c .before .before)))
 
 add-result : tie.Need-add-result
-add-result c = rw (← is (c .before .before .before) .date) (omega (arith, real-on (c .before .before .before)))
+add-result c = rw (← answered (c .before .before .before) .date) (omega (arith, real-on (c .before .before .before)))
 
 mul-result-2 : tie.Need-mul-result-2
 mul-result-2 c = omega (arith, opened (c .before .before .before .before))
@@ -34,10 +34,10 @@ add-result-2 : tie.Need-add-result-2
 add-result-2 c = omega (arith, opened (c .before .before .before .before .before))
 
 sub-result : tie.Need-sub-result
-sub-result c = 
+sub-result c =
     let b = c .before .before .before .before .before in
     let a = b .before .before .before .args in
-    rw (← is b .date)
+    rw (← answered b .date)
     (omega (arith, opened b, real-on b, month-index (a .opened) (opened b .opened .real) (a .k)))
 
 enum-told : tie.Need-enum-told
@@ -45,7 +45,7 @@ enum-told c = search needs
 
 returns : tie.Need-returns
 unfolding monthFrom
-returns c = let b = c .before .before .before .before .before in rw (← is b .date, is b .is-day)
+returns c = let b = c .before .before .before .before .before in rw (← answered b .date, answered b .is-day)
 
 returns-2 : tie.Need-returns-2
 returns-2 c = let a = c .before .before .before .args in simp (answer-outside (a .opened) (a .k) (sym (c .before .before .date-of .ensures) ∙ c .enum-told .given .1))

@@ -8,8 +8,8 @@ use Rattle.calendar.proofs.Laws.{reached-real}
 use Rattle.calendar.proofs.Date.next.Statement.{statement}
 use Rattle.calendar.proofs.Date.next.Tie as tie
 
-is : (c : tie.Else1) → reached (c .before .before .args .self) ≡ true
-is c = sym (c .before .is-reached .ensures) ∙ not-false _ (c .if1 .left)
+reached-is : (c : tie.Else1) → reached (c .before .before .args .self) ≡ true
+reached-is c = sym (c .before .is-reached .ensures) ∙ not-false _ (c .if1 .left)
 
 is-reached-requires : tie.Need-is-reached-requires
 is-reached-requires c κs = search needs
@@ -25,21 +25,21 @@ add-t5 c = search needs
 
 returns-2 : tie.Need-returns-2
 unfolding nextOf
-returns-2 c = simp (is (c .before .before .before .before), lt-ltb _ _ (rw (c .before .before .before .month-length .ensures) at (c .before .if2 .taken)))
+returns-2 c = simp (reached-is (c .before .before .before .before), lt-ltb _ _ (rw (c .before .before .before .month-length .ensures) at (c .before .if2 .taken)))
 
 add-t6 : tie.Need-add-t6
 add-t6 c = search needs
 
 returns-3 : tie.Need-returns-3
 unfolding nextOf
-returns-3 c = simp (is (c .before .before .before .before .before .before), le-ltb _ _ (rw (c .before .before .before .before .before .month-length .ensures) at (c .before .before .before .if2 .left)), lt-ltb _ _ (c .before .if3 .taken))
+returns-3 c = simp (reached-is (c .before .before .before .before .before .before), le-ltb _ _ (rw (c .before .before .before .before .before .month-length .ensures) at (c .before .before .before .if2 .left)), lt-ltb _ _ (c .before .if3 .taken))
 
 add-t4 : tie.Need-add-t4
-add-t4 c = omega (arith, reached-real _ (is (c .before .before .before .before .before .before)))
+add-t4 c = omega (arith, reached-real _ (reached-is (c .before .before .before .before .before .before)))
 
 returns-4 : tie.Need-returns-4
 unfolding nextOf
-returns-4 c = simp (is (c .before .before .before .before .before .before), le-ltb _ _ (rw (c .before .before .before .before .before .month-length .ensures) at (c .before .before .before .if2 .left)), le-ltb _ _ (c .before .if3 .left))
+returns-4 c = simp (reached-is (c .before .before .before .before .before .before), le-ltb _ _ (rw (c .before .before .before .before .before .month-length .ensures) at (c .before .before .before .if2 .left)), le-ltb _ _ (c .before .if3 .left))
 
 pub next-spec : {M : Type 1} → statement M
 next-spec =

@@ -8,8 +8,8 @@ use Rattle.calendar.proofs.Laws.{days-limit, weekday-after}
 use Rattle.calendar.proofs.Date.weekday.Statement.{statement}
 use Rattle.calendar.proofs.Date.weekday.Tie as tie
 
-is : (c : tie.Else1) → reached (c .before .before .args .self) ≡ true
-is c = sym (c .before .is-reached .ensures) ∙ not-false _ (c .if1 .left)
+reached-is : (c : tie.Else1) → reached (c .before .before .args .self) ≡ true
+reached-is c = sym (c .before .is-reached .ensures) ∙ not-false _ (c .if1 .left)
 
 is-reached-requires : tie.Need-is-reached-requires
 is-reached-requires c κs = search needs
@@ -18,14 +18,14 @@ returns : tie.Need-returns
 returns c = simp (sym (c .before .is-reached .ensures) ∙ not-true _ (c .if1 .taken))
 
 days-after-requires : tie.Need-days-after-requires
-days-after-requires c κs = is c
+days-after-requires c κs = reached-is c
 
 add-result : tie.Need-add-result
-add-result c = omega (arith, days-limit _ (is (c .before)), c .days-after .ensures)
+add-result c = omega (arith, days-limit _ (reached-is (c .before)), c .days-after .ensures)
 
 returns-2 : tie.Need-returns-2
 unfolding weekdayOf
-returns-2 c = simp (is (c .before), c .days-after .ensures, weekday-after)
+returns-2 c = simp (reached-is (c .before), c .days-after .ensures, weekday-after)
 
 pub weekday-spec : {M : Type 1} → statement M
 weekday-spec =

@@ -1,0 +1,53 @@
+-- The account record: a fresh one, and one that a refusal leaves.
+use Prim.Native.Nat.{ℕ, _+_}
+use mathlib.Core.Bool.{Bool, false}
+use lib.ListN.{replicate}
+use Rattle.terms.specs.declared.Terms.{Terms}
+use Rattle.account.specs.declared.Usage.{Usage}
+use Rattle.account.specs.declared.Usage.the-variants.{Blank, Estimated, Metered}
+use Rattle.account.specs.declared.Day.{Day}
+use Rattle.account.specs.declared.Payment.{Payment}
+use Rattle.account.specs.declared.Totals.{Totals}
+use Rattle.account.specs.declared.Account.{Account}
+use Rattle.account.specs.declared.Posted.{Posted}
+
+abbrev pub blankDay : Day
+blankDay = record { usage = Blank }
+
+abbrev pub noPayment : Payment
+noPayment = record { day = 0; amount = 0; part = 0; reversed = false }
+
+-- "A fresh account has balance B = 0, unpaid plan R = 0, service off, all usage days blank, no marks, no warnings."
+unfoldable pub fresh : Terms → Account
+fresh t = record {
+  terms = t;
+  totals = record { credit = 0; debit = 0; plan = 0; standing = 0; count = 0; events = 0; last = 0; on = false };
+  days = replicate 400 blankDay;
+  marks = replicate 400 0;
+  warned = replicate 400 0;
+  payments = replicate 128 noPayment;
+  charges = replicate 75 0;
+}
+
+-- a refusal leaves the account as it came in
+abbrev pub refused : Account → ℕ → Posted
+refused a k = record { account = a; code = k; value = 0 }
+
+-- the totals with one more event, of day x
+abbrev pub tallied : Totals → ℕ → Totals
+tallied s x = record {
+  credit = s .credit;
+  debit = s .debit;
+  plan = s .plan;
+  standing = s .standing;
+  count = s .count;
+  events = s .events + 1;
+  last = x;
+  on = s .on;
+}
+
+-- the cost of the estimate that stands on a day
+abbrev pub costHeld : Usage → ℕ
+costHeld Blank = 0
+costHeld (Estimated wh cost) = cost
+costHeld (Metered wh cost) = 0

@@ -1,0 +1,39 @@
+-- What the record's searches and its bytes of marks answer.
+use Prim.Native.Nat.{ℕ, zero, suc, _+_, _-_}
+use mathlib.Core.Bool.{Bool, true, false, cond, not, _&&_, _||_}
+use mathlib.Core.List.{List}
+use lib.ListN.{getD, set}
+use lib.Dec.{ltb, leb, eqb}
+use lib.Bits.{bitAnd, bitOr}
+use Rattle.account.specs.declared.service.Found.{Found}
+use Rattle.account.specs.declared.service.Found.the-variants.{At, Missing}
+
+-- the bit of a mark kind in a day's byte
+abbrev pub markBit : ℕ → ℕ
+markBit kind = cond (eqb kind 1) 1 (cond (eqb kind 2) 2 (cond (eqb kind 3) 4 0))
+
+-- the bytes with the bit set on the n days from `from` on
+unfoldable pub markRange : List ℕ → ℕ → ℕ → ℕ → List ℕ
+markRange marks bit from zero = marks
+markRange marks bit from (suc n) =
+    set (markRange marks bit from n) (from + n) (bitOr (getD (markRange marks bit from n) (from + n) 0) bit)
+
+-- the newest of the n days before day d whose byte is 1
+unfoldable pub latestOf : List ℕ → ℕ → ℕ → Found
+latestOf warned zero zero = Missing
+latestOf warned (suc d) zero = Missing
+latestOf warned zero (suc n) = Missing
+latestOf warned (suc d) (suc n) = cond (eqb (getD warned d 0) 1) (At d) (latestOf warned d n)
+
+abbrev pub dayBefore : ℕ → ℕ
+dayBefore w = cond (eqb w 0) 6 (w - 1)
+
+abbrev pub businessLeft : ℕ → ℕ → ℕ
+businessLeft w left = cond (leb 5 w) left (left - 1)
+
+-- whether one of days 0 to d has the weather bit, with at most `left` business days after it up to day d, whose weekday is w
+unfoldable pub nearOf : List ℕ → ℕ → ℕ → ℕ → Bool
+nearOf marks w zero left = not (eqb (bitAnd (getD marks 0 0) 1) 0)
+nearOf marks w (suc d) left =
+    not (eqb (bitAnd (getD marks (suc d) 0) 1) 0)
+    || (not (ltb w 5 && eqb left 0) && nearOf marks (dayBefore w) d (businessLeft w left))

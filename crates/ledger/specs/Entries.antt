@@ -1,0 +1,144 @@
+-- The list L of accepted events and what is read off the terms and L (document 01, "The ledger of demand 3").
+use Prim.Native.Nat.{ℕ, zero, suc, _+_}
+use mathlib.Core.Bool.{Bool, true, false, cond, not, _&&_, _||_}
+use mathlib.Core.List.{List, [], _∷_}
+use lib.Dec.{ltb, leb, eqb}
+use Rattle.calendar.specs.Calendar.{dateOn, weekdayOf}
+use Rattle.tariff.specs.Tariff.{costOf}
+use Rattle.terms.specs.declared.Terms.{Terms}
+use Rattle.ledger.specs.declared.Event.{Event}
+use Rattle.ledger.specs.Event.{isPay, isReverse, isEstimate, isRead, isWarn, isMark}
+
+-- "the list L of the events it accepted, each payment with its two parts": of a payment, `part` went to the plan and the rest
+-- of its amount to B; of any other event `part` is 0.
+pub record Entry : Type 0 where
+  pub event : Event
+  pub part : ℕ
+
+-- L, the newest entry first.
+abbrev pub Entries : Type 0
+Entries = List Entry
+
+unfoldable pub any : (Event → Bool) → Entries → Bool
+any p [] = false
+any p (x ∷ l) = p (x .event) || any p l
+
+unfoldable pub count : (Event → Bool) → Entries → ℕ
+count p [] = 0
+count p (x ∷ l) = count p l + cond (p (x .event)) 1 0
+
+-- The sum of f over the entries, each with those accepted before it.
+unfoldable pub sum : (Entry → Entries → ℕ) → Entries → ℕ
+sum f [] = 0
+sum f (x ∷ l) = sum f l + f x l
+
+-- The newest entry that f picks, each with those accepted before it. (Every use picks one at the most.)
+abbrev pub noEntry : Entry
+noEntry = record {
+  event = record { sort = 0; day = 0; amount = 0; number = 0; kind = 0; usage = 0; wh = 0; from = 0; to = 0 };
+  part = 0;
+}
+
+unfoldable pub find : (Entry → Entries → Bool) → Entries → Entry
+find f [] = noEntry
+find f (x ∷ l) = cond (f x l) x (find f l)
+
+-- "the last event's day (0 while L is empty)"
+unfoldable pub lastDay : Entries → ℕ
+lastDay [] = 0
+lastDay (x ∷ l) = x .event .day
+
+-- "the counts of events and payments"
+unfoldable pub payments : Entries → ℕ
+payments l = count isPay l
+
+-- "a payment by its number", "the payment's number, from 0": as many payments came before it.
+abbrev pub hasNumber : ℕ → Entry → Entries → Bool
+hasNumber n x before = isPay (x .event) && eqb (payments before) n
+
+unfoldable pub payment : ℕ → Entries → Entry
+payment n l = find (hasNumber n) l
+
+-- "reversed if L has a reverse of it"
+unfoldable pub reversed : ℕ → Entries → Bool
+reversed n l = any (λ (e : Event). isReverse e && eqb (e .number) n) l
+
+-- "some accepted warning was issued on a day w with 1 ≤ x − w ≤ 7"
+unfoldable pub warned : ℕ → Entries → Bool
+warned x l = any (λ (e : Event). isWarn e && (leb (e .day + 1) x && leb x (e .day + 7))) l
+
+-- The price in force on usage day u (T-01: by the day).
+unfoldable pub priceOn : Terms → Entries → ℕ → ℕ
+priceOn t l u = t .price
+
+-- "A usage day is metered if L has a read of it, else estimated if L has an estimate of it, else blank; its cost is that event's."
+pub data UsageDay : Type 0 where
+  blank : UsageDay
+  estimated : ℕ → ℕ → UsageDay
+  metered : ℕ → ℕ → UsageDay
+
+abbrev pub readOn : ℕ → Event → Bool
+readOn u e = isRead e && eqb (e .usage) u
+
+abbrev pub estimateOn : ℕ → Event → Bool
+estimateOn u e = isEstimate e && eqb (e .usage) u
+
+-- the Wh of the event on usage day u that p picks
+abbrev pub whOn : (ℕ → Event → Bool) → ℕ → Entries → ℕ
+whOn p u l = find (λ (x : Entry) (before : Entries). p u (x .event)) l .event .wh
+
+unfoldable pub usageDay : Terms → Entries → ℕ → UsageDay
+usageDay t l u =
+    cond (any (readOn u) l) (metered (whOn readOn u l) (costOf (whOn readOn u l) (priceOn t l u)))
+    (cond (any (estimateOn u) l) (estimated (whOn estimateOn u l) (costOf (whOn estimateOn u l) (priceOn t l u))) blank)
+
+abbrev pub isBlank : UsageDay → Bool
+isBlank blank = true
+isBlank (estimated wh cost) = false
+isBlank (metered wh cost) = false
+
+abbrev pub isMetered : UsageDay → Bool
+isMetered blank = false
+isMetered (estimated wh cost) = false
+isMetered (metered wh cost) = true
+
+-- the cost of the estimate that stands on the day
+abbrev pub estimateCost : UsageDay → ℕ
+estimateCost blank = 0
+estimateCost (estimated wh cost) = cost
+estimateCost (metered wh cost) = 0
+
+-- "A mark in L covers days `from` to `to`." (T-10: less what is withdrawn.)
+unfoldable pub covered : ℕ → ℕ → Entries → Bool
+covered kind d l = any (λ (e : Event). isMark e && (eqb (e .kind) kind && (leb (e .from) d && leb d (e .to)))) l
+
+-- "A weather day is one covered by kind 1."
+abbrev pub weather : Entries → ℕ → Bool
+weather l d = covered 1 d l
+
+-- Monday is 0, Saturday 5, Sunday 6.
+abbrev pub weekday : Terms → ℕ → ℕ
+weekday t d = weekdayOf (dateOn (t .opened) d)
+
+-- "A barred day is a Saturday, a Sunday or a covered day."
+unfoldable pub barred : Terms → ℕ → Entries → Bool
+barred t d l = leb 5 (weekday t d) || (covered 1 d l || (covered 2 d l || covered 3 d l))
+
+-- "Business days are Monday to Friday." (T-03: holidays are none.)
+unfoldable pub business : Terms → Entries → ℕ → Bool
+business t l d = ltb (weekday t d) 5
+
+-- How many of days 0 to n - 1 have p.
+unfoldable pub countDays : (ℕ → Bool) → ℕ → ℕ
+countDays p zero = 0
+countDays p (suc n) = countDays p n + cond (p n) 1 0
+
+-- Whether one of days 0 to n - 1 has p.
+unfoldable pub anyDay : (ℕ → Bool) → ℕ → Bool
+anyDay p zero = false
+anyDay p (suc n) = p n || anyDay p n
+
+-- "some weather day w ≤ x has at most one business day among days w+1 to x"
+unfoldable pub weatherNear : Terms → Entries → ℕ → Bool
+weatherNear t l x =
+    anyDay (λ (w : ℕ). weather l w && leb (countDays (λ (d : ℕ). ltb w d && business t l d) (suc x)) 1) (suc x)

@@ -1,0 +1,72 @@
+-- The events and the limits of their fields (document 01, "Events"). The bold words are numbered in the paper's order.
+use Prim.Native.Nat.{ℕ}
+use mathlib.Core.Bool.{Bool, true, false, cond, _&&_, _||_}
+use lib.Dec.{leb, eqb}
+use Rattle.terms.specs.Terms.{within}
+use Rattle.ledger.specs.declared.Event.{Event}
+
+abbrev pub isPay : Event → Bool
+isPay e = eqb (e .sort) 1
+
+abbrev pub isReverse : Event → Bool
+isReverse e = eqb (e .sort) 2
+
+abbrev pub isCredit : Event → Bool
+isCredit e = eqb (e .sort) 3
+
+abbrev pub isCharge : Event → Bool
+isCharge e = eqb (e .sort) 4
+
+abbrev pub isEstimate : Event → Bool
+isEstimate e = eqb (e .sort) 5
+
+abbrev pub isRead : Event → Bool
+isRead e = eqb (e .sort) 6
+
+abbrev pub isWarn : Event → Bool
+isWarn e = eqb (e .sort) 7
+
+abbrev pub isMark : Event → Bool
+isMark e = eqb (e .sort) 8
+
+abbrev pub isPlan : Event → Bool
+isPlan e = eqb (e .sort) 9
+
+abbrev pub isDisconnect : Event → Bool
+isDisconnect e = eqb (e .sort) 10
+
+abbrev pub isConnect : Event → Bool
+isConnect e = eqb (e .sort) 11
+
+-- "**pay** amount (1 to 10,000,000)"; "**credit** amount, **charge** kind and amount, amounts within the limits of pay".
+abbrev pub amountInLimits : Event → Bool
+amountInLimits e = within 1 10000000 (e .amount)
+
+-- "wh (0 to 9,999,999)"
+abbrev pub whInLimits : Event → Bool
+whInLimits e = leb (e .wh) 9999999
+
+-- "with x ≤ from ≤ to ≤ 399"
+abbrev pub markDaysInLimits : Event → Bool
+markDaysInLimits e = leb (e .day) (e .from) && (leb (e .from) (e .to) && leb (e .to) 399)
+
+-- "Charge kinds 1 to 5"; mark "1 extreme weather emergency, 2 payment means down, 3 confirmed assistance pledge";
+-- plan "Kind 1, required", "Kind 2, offered".
+abbrev pub chargeKinds : ℕ → Bool
+chargeKinds k = within 1 5 k
+
+abbrev pub markKinds : ℕ → Bool
+markKinds k = within 1 3 k
+
+abbrev pub planKinds : ℕ → Bool
+planKinds k = within 1 2 k
+
+-- What code 3 asks of an event: "event sort, amount, wh, kind, mark days". A reverse's number and a usage day have no limit under 3.
+unfoldable pub inLimits : Event → Bool
+inLimits e =
+    cond (isPay e || isCredit e) (amountInLimits e)
+    (cond (isCharge e) (chargeKinds (e .kind) && amountInLimits e)
+    (cond (isEstimate e || isRead e) (whInLimits e)
+    (cond (isMark e) (markKinds (e .kind) && markDaysInLimits e)
+    (cond (isPlan e) (planKinds (e .kind))
+    (isReverse e || isWarn e || isDisconnect e || isConnect e)))))

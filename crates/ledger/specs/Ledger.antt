@@ -1,0 +1,125 @@
+-- The ledger's step (document 01, "Events" and "The ledger of demand 3").
+use Prim.Native.Nat.{ℕ, _+_, _*_, _-_, _/_, min}
+use mathlib.Core.Bool.{Bool, true, false, cond}
+use mathlib.Core.List.{List, [], _∷_}
+use lib.Dec.{eqb}
+use lib.IntN.{ℤ, pos, _+ℤ_, _-ℤ_, natAbs}
+use Rattle.tariff.specs.Tariff.{costOf}
+use Rattle.terms.specs.declared.Terms.{Terms}
+use Rattle.ledger.specs.declared.Event.{Event}
+use Rattle.ledger.specs.declared.Answer.{Answer}
+use Rattle.ledger.specs.Event.{isPay, isReverse, isCredit, isCharge, isEstimate, isRead, isPlan, isDisconnect, isConnect}
+use Rattle.ledger.specs.Entries.{Entry, payments, payment, priceOn, usageDay, estimateCost}
+use Rattle.ledger.specs.Rules.{Ledger, refusals, lowest}
+
+-- "At first L is empty, B and R are 0, service is off."
+abbrev pub opening : Ledger
+opening = record { list = []; balance = pos 0; plan = 0; on = false }
+
+-- What an accepted event does: its value, its payment's plan part, and B, R and service after it.
+pub record Move : Type 0 where
+  pub value : ℕ
+  pub part : ℕ
+  pub balance : ℤ
+  pub plan : ℕ
+  pub on : Bool
+
+-- "Plan part = the smaller of R and amount × share / 100 rounded down." (T-07: 0 while instalments are left.)
+unfoldable pub planPart : Terms → Ledger → ℕ → ℕ
+planPart t l amount = min (l .plan) (amount * t .share / 100)
+
+-- "R falls by it; B rises by the rest. Value: the payment's number, from 0."
+unfoldable pub payMove : Terms → Ledger → Event → Move
+payMove t l e = record {
+  value = payments (l .list);
+  part = planPart t l (e .amount);
+  balance = l .balance +ℤ pos (e .amount - planPart t l (e .amount));
+  plan = l .plan - planPart t l (e .amount);
+  on = l .on;
+}
+
+-- "The payment's own two parts are taken back: B falls, R rises."
+unfoldable pub reverseMove : Ledger → Event → Move
+reverseMove l e = record {
+  value = 0;
+  part = 0;
+  balance = l .balance -ℤ pos (payment (e .number) (l .list) .event .amount - payment (e .number) (l .list) .part);
+  plan = l .plan + payment (e .number) (l .list) .part;
+  on = l .on;
+}
+
+-- the move of B alone
+abbrev pub balanceMove : Ledger → ℕ → ℤ → Move
+balanceMove l v b = record { value = v; part = 0; balance = b; plan = l .plan; on = l .on }
+
+-- the move of service alone
+abbrev pub serviceMove : Ledger → Bool → Move
+serviceMove l b = record { value = 0; part = 0; balance = l .balance; plan = l .plan; on = b }
+
+-- the cost of the event's Wh on its usage day
+abbrev pub eventCost : Terms → Ledger → Event → ℕ
+eventCost t l e = costOf (e .wh) (priceOn t (l .list) (e .usage))
+
+-- "An estimate takes a blank day only, and B falls by its cost."; "Value: the new cost."
+unfoldable pub estimateMove : Terms → Ledger → Event → Move
+estimateMove t l e = balanceMove l (eventCost t l e) (l .balance -ℤ pos (eventCost t l e))
+
+-- "the old estimate's cost is given back and the read's cost taken"
+unfoldable pub readMove : Terms → Ledger → Event → Move
+readMove t l e =
+    balanceMove l (eventCost t l e)
+    (l .balance +ℤ pos (estimateCost (usageDay t (l .list) (e .usage))) -ℤ pos (eventCost t l e))
+
+-- "It defers D = connect − B." B is below 0, so D is above 0.
+unfoldable pub deferred : Terms → Ledger → ℕ
+deferred t l = natAbs (pos (t .connect) -ℤ l .balance)
+
+-- "B becomes `connect` and R rises by D. Value: D."
+unfoldable pub planMove : Terms → Ledger → Move
+planMove t l = record { value = deferred t l; part = 0; balance = pos (t .connect); plan = l .plan + deferred t l; on = l .on }
+
+-- "A credit raises B by its whole amount, a charge lowers it by its own; R stays."; "Service is then off."; "Service is then on."
+-- A warn and a mark move nothing.
+unfoldable pub moveOf : Terms → Ledger → Event → Move
+moveOf t l e =
+    cond (isPay e) (payMove t l e)
+    (cond (isReverse e) (reverseMove l e)
+    (cond (isCredit e) (balanceMove l 0 (l .balance +ℤ pos (e .amount)))
+    (cond (isCharge e) (balanceMove l 0 (l .balance -ℤ pos (e .amount)))
+    (cond (isEstimate e) (estimateMove t l e)
+    (cond (isRead e) (readMove t l e)
+    (cond (isPlan e) (planMove t l)
+    (cond (isDisconnect e) (serviceMove l false)
+    (cond (isConnect e) (serviceMove l true)
+    (serviceMove l (l .on))))))))))
+
+-- "the event joins L, and B, R and service move as above"
+abbrev pub moved : Ledger → Event → Move → Ledger
+moved l e m = record {
+  list = record { event = e; part = m .part } ∷ l .list;
+  balance = m .balance;
+  plan = m .plan;
+  on = m .on;
+}
+
+abbrev pub answer : ℕ → ℕ → Answer
+answer code value = record { code = code; value = value }
+
+pub record Outcome : Type 0 where
+  pub ledger : Ledger
+  pub answer : Answer
+
+-- the number by which the table refuses the event; 0 where it is accepted
+unfoldable pub refusal : Terms → Ledger → Event → ℕ
+refusal t l e = lowest (refusals t l e)
+
+abbrev pub accepts : Terms → Ledger → Event → Bool
+accepts t l e = eqb (refusal t l e) 0
+
+-- "Its step: if the table below refuses the event, the answer is that code with value 0, and the ledger stays as it is.
+-- Otherwise the answer is 0 with the value above."
+unfoldable pub ledgerStep : Terms → Ledger → Event → Outcome
+ledgerStep t l e =
+    cond (accepts t l e)
+    (record { ledger = moved l e (moveOf t l e); answer = answer 0 (moveOf t l e .value) })
+    (record { ledger = l; answer = answer (refusal t l e) 0 })

@@ -1,0 +1,6 @@
+pub mod Event
+pub mod Entries
+pub mod Rules
+pub mod Ledger
+pub mod Sums
+pub mod Months

@@ -1,0 +1,53 @@
+-- The refusals (document 01, "What comes back on a refusal").
+use Prim.Native.Nat.{ℕ, _+_}
+use mathlib.Core.Bool.{Bool, true, false, cond, not, _&&_, _||_}
+use mathlib.Core.List.{List, [], _∷_}
+use lib.ListN.{length}
+use lib.Dec.{ltb, leb, eqb}
+use lib.IntN.{ℤ, pos, negℤ}
+use lib.Signed.{ltZ, leZ}
+use Rattle.terms.specs.declared.Terms.{Terms}
+use Rattle.ledger.specs.declared.Event.{Event}
+use Rattle.ledger.specs.Event.{isPay, isReverse, isEstimate, isRead, isPlan, isDisconnect, isConnect, inLimits}
+use Rattle.ledger.specs.Entries.{Entries, lastDay, payments, reversed, warned, usageDay, isBlank, isMetered, barred, weatherNear}
+
+-- "It holds the list L of the events it accepted, each payment with its two parts, and B, R and service."
+pub record Ledger : Type 0 where
+  pub list : Entries
+  pub balance : ℤ
+  pub plan : ℕ
+  pub on : Bool
+
+-- "Kind 1, required: B ≤ −5,000, and some weather day w ≤ x has at most one business day among days w+1 to x."
+-- "Kind 2, offered: B < 0." (T-07: kind 3.)
+unfoldable pub planAllowed : Terms → Ledger → Event → Bool
+planAllowed t l e =
+    cond (eqb (e .kind) 1)
+    (leZ (l .balance) (negℤ (pos 5000)) && weatherNear t (l .list) (e .day))
+    (ltZ (l .balance) (pos 0))
+
+abbrev pub Rule : Type 0
+Rule = ℕ × Bool
+
+-- The table, each number with when it applies, in the order in which they are looked at (T-04 exchanges 13 and 14).
+unfoldable pub refusals : Terms → Ledger → Event → List Rule
+refusals t l e =
+    (2, ltb (e .day) (lastDay (l .list)) || ltb 399 (e .day))
+    ∷ (3, not (inLimits e))
+    ∷ (4, leb 4096 (length (l .list)))
+    ∷ (5, isPay e && leb 128 (payments (l .list)))
+    ∷ (6, isReverse e && (leb (payments (l .list)) (e .number) || reversed (e .number) (l .list)))
+    ∷ (7, (isEstimate e || isRead e) && leb (e .day) (e .usage))
+    ∷ (8, (isEstimate e && not (isBlank (usageDay t (l .list) (e .usage)))) || (isRead e && isMetered (usageDay t (l .list) (e .usage))))
+    ∷ (9, isPlan e && not (planAllowed t l e))
+    ∷ (10, isPlan e && ltb 0 (l .plan))
+    ∷ (11, (isDisconnect e && not (l .on)) || (isConnect e && l .on))
+    ∷ (12, (isDisconnect e && leZ (pos (t .cutoff)) (l .balance)) || (isConnect e && ltZ (l .balance) (pos (t .connect))))
+    ∷ (13, isDisconnect e && not (warned (e .day) (l .list)))
+    ∷ (14, isDisconnect e && barred t (e .day) (l .list))
+    ∷ []
+
+-- "Several apply: the lowest number of 1 to 14." 0 where none applies.
+unfoldable pub lowest : List Rule → ℕ
+lowest [] = 0
+lowest (r ∷ rs) = cond (r .1) (r .0) (lowest rs)

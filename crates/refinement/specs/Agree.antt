@@ -1,0 +1,98 @@
+-- When an account record stands for a ledger: each of its fields is what the ledger reads off the terms and L.
+use Prim.Native.Nat.{ℕ, suc, _+_, _*_, _≤_, _<_}
+use mathlib.Core.Path.{_≡_}
+use mathlib.Core.Bool.{Bool, true, cond, _&&_}
+use lib.ListN.{length, getD}
+use lib.Dec.{eqb}
+use lib.IntN.{ℤ, pos, _-ℤ_}
+use Rattle.terms.specs.Terms.{validTerms}
+use Rattle.terms.specs.declared.Terms.{Terms}
+use Rattle.ledger.specs.declared.Event.{Event}
+use Rattle.ledger.specs.declared.Answer.{Answer}
+use Rattle.ledger.specs.Event.{isWarn}
+use Rattle.ledger.specs.Entries.{Entries, any, lastDay, payments, payment, reversed, UsageDay, blank, estimated, metered, usageDay, covered}
+use Rattle.ledger.specs.Rules.{Ledger}
+use Rattle.ledger.specs.Ledger.{Outcome}
+use Rattle.ledger.specs.Sums.{standing}
+use Rattle.ledger.specs.Months.{chargesIn}
+use Rattle.account.specs.Record.{blankDay, noPayment, costHeld}
+use Rattle.account.specs.declared.Usage.{Usage}
+use Rattle.account.specs.declared.Usage.the-variants.{Blank, Estimated, Metered}
+use Rattle.account.specs.declared.Payment.{Payment}
+use Rattle.account.specs.declared.Totals.{Totals}
+use Rattle.account.specs.declared.Account.{Account}
+use Rattle.account.specs.declared.Posted.{Posted}
+
+-- a usage day's state as the record has it
+abbrev pub usageOf : UsageDay → Usage
+usageOf blank = Blank
+usageOf (estimated wh cost) = Estimated wh cost
+usageOf (metered wh cost) = Metered wh cost
+
+-- payment n as the record has it
+abbrev pub paymentOf : ℕ → Entries → Payment
+paymentOf n l = record {
+  day = payment n l .event .day;
+  amount = payment n l .event .amount;
+  part = payment n l .part;
+  reversed = reversed n l;
+}
+
+-- a day's byte of marks
+abbrev pub marksOf : ℕ → Entries → ℕ
+marksOf d l = cond (covered 1 d l) 1 0 + (cond (covered 2 d l) 2 0 + cond (covered 3 d l) 4 0)
+
+-- whether an accepted warning was issued on day d
+unfoldable pub warnedOn : ℕ → Entries → Bool
+warnedOn d l = any (λ (e : Event). isWarn e && eqb (e .day) d) l
+
+-- the totals
+pub record Sums (t : Terms) (s : Totals) (l : Ledger) : Type 0 where
+  pub events : s .events ≡ length (l .list)
+  pub last : s .last ≡ lastDay (l .list)
+  pub balance : l .balance ≡ pos (s .credit) -ℤ pos (s .debit)
+  pub plan : s .plan ≡ l .plan
+  pub on : s .on ≡ l .on
+  pub standing : s .standing ≡ standing t (l .list)
+  pub count : s .count ≡ payments (l .list)
+
+-- how far a total can be after so many events
+pub record Bounds (s : Totals) : Type 0 where
+  pub full : s .events ≤ 4096
+  pub count : s .count ≤ 128
+  pub credit : s .credit ≤ s .events * 50000000000
+  pub debit : s .debit ≤ s .events * 10000000
+  pub plan : s .plan ≤ s .events * 50000000000
+  pub standing : s .standing ≤ s .events * 10000000
+
+-- what is kept by payment, usage day, day, and month with charge kind
+pub record Kept (t : Terms) (a : Account) (l : Entries) : Type 0 where
+  pub payments : (n : ℕ) → n < payments l → getD (a .payments) n noPayment ≡ paymentOf n l
+  pub amounts : (n : ℕ) → payment n l .event .amount ≤ 10000000
+  pub days : (u : ℕ) → u < 400 → getD (a .days) u blankDay .usage ≡ usageOf (usageDay t l u)
+  pub held : (u : ℕ) → costHeld (usageOf (usageDay t l u)) ≤ 10000000
+  pub marks : (d : ℕ) → d < 400 → getD (a .marks) d 0 ≡ marksOf d l
+  pub warned : (d : ℕ) → d < 400 → getD (a .warned) d 0 ≡ cond (warnedOn d l) 1 0
+  pub charges : (m k : ℕ) → m < 15 → k < 5 → getD (a .charges) (5 * m + k) 0 ≡ chargesIn t m (suc k) l
+  pub charged : (m k : ℕ) → chargesIn t m k l ≤ length l * 10000000
+
+pub record Sizes (a : Account) : Type 0 where
+  pub payments : length (a .payments) ≡ 128
+  pub days : length (a .days) ≡ 400
+  pub marks : length (a .marks) ≡ 400
+  pub warned : length (a .warned) ≡ 400
+  pub charges : length (a .charges) ≡ 75
+
+pub record Agree (t : Terms) (a : Account) (l : Ledger) : Type 0 where
+  pub terms : a .terms ≡ t
+  pub valid : validTerms t ≡ true
+  pub sums : Sums t (a .totals) l
+  pub bounds : Bounds (a .totals)
+  pub kept : Kept t a (l .list)
+  pub sizes : Sizes a
+
+-- the same answer, and they agree again
+pub record Same (t : Terms) (p : Posted) (o : Outcome) : Type 0 where
+  pub code : p .code ≡ o .answer .code
+  pub value : p .value ≡ o .answer .value
+  pub again : Agree t (p .account) (o .ledger)
