@@ -5,7 +5,6 @@ use mathlib.Core.Bool.{Bool, true, false, cond, not, _&&_, _||_}
 use mathlib.Core.List.{List}
 use lib.ListN.{getD, set}
 use lib.Dec.{ltb, leb, eqb}
-use lib.Bits.{bitAnd}
 use Rattle.calendar.specs.Calendar.{weekdayOn, monthOn}
 use Rattle.tariff.specs.Tariff.{costOf}
 use Rattle.terms.specs.Terms.{termsCode}
@@ -13,7 +12,9 @@ use Rattle.terms.specs.declared.Terms.{Terms}
 use Rattle.ledger.specs.Event.{inLimits}
 use Rattle.ledger.specs.declared.Event.{Event}
 use Rattle.account.specs.Record.{blankDay, noPayment, fresh, refused, tallied, costHeld}
-use Rattle.account.specs.Search.{markBit, markRange, latestOf, nearOf}
+use Rattle.marks.specs.Marks.{marked, barringOn, latestWarning, weatherNear}
+use Rattle.marks.specs.declared.Found.{Found}
+use Rattle.marks.specs.declared.Found.the-variants.{At, Missing}
 use Rattle.account.specs.declared.Usage.{Usage}
 use Rattle.account.specs.declared.Usage.the-variants.{Blank, Estimated, Metered}
 use Rattle.account.specs.declared.Day.{Day}
@@ -22,8 +23,6 @@ use Rattle.account.specs.declared.Totals.{Totals}
 use Rattle.account.specs.declared.Account.{Account}
 use Rattle.account.specs.declared.Posted.{Posted}
 use Rattle.account.specs.declared.Opened.{Opened}
-use Rattle.account.specs.declared.service.Found.{Found}
-use Rattle.account.specs.declared.service.Found.the-variants.{At, Missing}
 
 abbrev pub openOf : Terms → Opened
 openOf t = record { account = fresh t; code = termsCode t }
@@ -278,7 +277,7 @@ warnOf a e = accepted (withWarned a (set (a .warned) (e .day) 1)) (tallied (a .t
 unfoldable pub markOf : Account → Event → Posted
 markOf a e =
     accepted
-    (withMarks a (markRange (a .marks) (markBit (e .kind)) (e .from) (e .to + 1 - e .from)))
+    (withMarks a (marked (a .marks) (e .kind) (e .from) (e .to)))
     (tallied (a .totals) (e .day))
     0
 
@@ -296,7 +295,7 @@ abbrev pub planTest : Account → Event → Bool
 planTest a e =
     cond (eqb (e .kind) 1)
     (leb (a .totals .credit + 5000) (a .totals .debit)
-    && nearOf (a .marks) (weekdayOn (a .terms .opened) (e .day)) (e .day) 1)
+    && weatherNear (a .marks) (weekdayOn (a .terms .opened) (e .day)) (e .day))
     (ltb (a .totals .credit) (a .totals .debit))
 
 unfoldable pub planOf : Account → Event → Posted
@@ -309,16 +308,14 @@ abbrev pub isMissing : Found → Bool
 isMissing (At d) = false
 isMissing Missing = true
 
--- barred is a mask test
 abbrev pub barredTest : Account → Event → Bool
-barredTest a e =
-    leb 5 (weekdayOn (a .terms .opened) (e .day)) || not (eqb (bitAnd (getD (a .marks) (e .day) 0) 7) 0)
+barredTest a e = leb 5 (weekdayOn (a .terms .opened) (e .day)) || barringOn (a .marks) (e .day)
 
 unfoldable pub disconnectOf : Account → Event → Posted
 disconnectOf a e =
     cond (not (a .totals .on)) (refused a 11)
     (cond (leb (a .totals .debit + a .terms .cutoff) (a .totals .credit)) (refused a 12)
-    (cond (isMissing (latestOf (a .warned) (e .day) 7)) (refused a 13)
+    (cond (isMissing (latestWarning (a .warned) (e .day))) (refused a 13)
     (cond (barredTest a e) (refused a 14) (servedOf a e false))))
 
 unfoldable pub connectOf : Account → Event → Posted

@@ -1,0 +1,52 @@
+-- What `inLimits` asks of each sort.
+-- Assumes nothing.
+use mathlib.Core.Path.{_≡_, refl, sym}
+use mathlib.Core.Bool.{true, false, _&&_}
+use mathlib.Core.Logic.{_⊎_, inl, inr}
+use Prim.Native.Nat.{ℕ, _+_, _≤_, _<_}
+use native.Mathlib.Omega.{arith}
+use native.Mathlib.Nat.{eq-or-lt-of-le}
+use borrow.Author.Tests.{ne-eqb}
+use Rattle.ledger.specs.Event.{inLimits, amountInLimits, whInLimits, markDaysInLimits, chargeKinds, markKinds, planKinds}
+use Rattle.ledger.specs.declared.Event.{Event}
+
+-- a number of a range of two is one of them
+pub either : (n low : ℕ) → low ≤ n → n < low + 2 → (n ≡ low) ⊎ (n ≡ low + 1)
+either n low l h = elim (eq-or-lt-of-le l) [ inl e ↦ inl (sym e) | inr g ↦ inr (omega arith) ]
+
+pub amounts : (e : Event) → (e .sort ≡ 1) ⊎ (e .sort ≡ 3) → inLimits e ≡ amountInLimits e
+unfolding inLimits
+amounts e (inl h) = rw h
+amounts e (inr h) = rw h
+
+pub charges : (e : Event) → e .sort ≡ 4 → inLimits e ≡ (chargeKinds (e .kind) && amountInLimits e)
+unfolding inLimits
+charges e h = rw h
+
+pub usages : (e : Event) → (e .sort ≡ 5) ⊎ (e .sort ≡ 6) → inLimits e ≡ whInLimits e
+unfolding inLimits
+usages e (inl h) = rw h
+usages e (inr h) = rw h
+
+pub marks : (e : Event) → e .sort ≡ 8 → inLimits e ≡ (markKinds (e .kind) && markDaysInLimits e)
+unfolding inLimits
+marks e h = rw h
+
+pub plans : (e : Event) → e .sort ≡ 9 → inLimits e ≡ planKinds (e .kind)
+unfolding inLimits
+plans e h = rw h
+
+-- the sorts with no field that has limits
+pub plain : (e : Event) → ((e .sort ≡ 2) ⊎ (e .sort ≡ 7)) ⊎ ((e .sort ≡ 10) ⊎ (e .sort ≡ 11)) → inLimits e ≡ true
+unfolding inLimits
+plain e (inl (inl h)) = rw h
+plain e (inl (inr h)) = rw h
+plain e (inr (inl h)) = rw h
+plain e (inr (inr h)) = rw h
+
+pub no-sort : (e : Event) → (e .sort ≡ 0) ⊎ (12 ≤ e .sort) → inLimits e ≡ false
+unfolding inLimits
+no-sort e (inl h) = rw h
+no-sort e (inr h) =
+    simp
+    (ne-eqb (e .sort) 1 (λ z. omega arith), ne-eqb (e .sort) 2 (λ z. omega arith), ne-eqb (e .sort) 3 (λ z. omega arith), ne-eqb (e .sort) 4 (λ z. omega arith), ne-eqb (e .sort) 5 (λ z. omega arith), ne-eqb (e .sort) 6 (λ z. omega arith), ne-eqb (e .sort) 7 (λ z. omega arith), ne-eqb (e .sort) 8 (λ z. omega arith), ne-eqb (e .sort) 9 (λ z. omega arith), ne-eqb (e .sort) 10 (λ z. omega arith), ne-eqb (e .sort) 11 (λ z. omega arith))

@@ -1,0 +1,87 @@
+// The limits of an event's fields (code 3).
+// It uses the ledger's event. Its promise cites the ledger's specs/Event.antt.
+use ledger::Event;
+ghost use mathlib.Core.Path.{_≡_};
+ghost use mathlib.Core.Bool.{cond, _&&_};
+ghost use lib.Dec.{leb};
+ghost use Rattle.terms.specs.Terms.{within};
+ghost use Rattle.ledger.specs.Event.{inLimits, chargeKinds, markKinds, planKinds};
+
+fn amount_code(amount: u32) -> u8
+    ensures { λ r. ⌜ r ≡ cond (within 1 10000000 amount) 0 3 ⌝ }
+{
+    if amount < 1 {
+        return 3;
+    }
+    if amount > 10000000 {
+        return 3;
+    }
+    0
+}
+
+fn wh_code(wh: u32) -> u8
+    ensures { λ r. ⌜ r ≡ cond (leb wh 9999999) 0 3 ⌝ }
+{
+    if wh > 9999999 {
+        return 3;
+    }
+    0
+}
+
+fn charge_code(kind: u32, amount: u32) -> u8
+    ensures { λ r. ⌜ r ≡ cond (chargeKinds kind && within 1 10000000 amount) 0 3 ⌝ }
+{
+    match kind {
+        1 | 2 | 3 | 4 | 5 => amount_code(amount),
+        0 | 6..=4294967295 => 3,
+    }
+}
+
+fn span_code(day: u32, from: u32, to: u32) -> u8
+    ensures { λ r. ⌜ r ≡ cond (leb day from && (leb from to && leb to 399)) 0 3 ⌝ }
+{
+    if from < day {
+        return 3;
+    }
+    if to < from {
+        return 3;
+    }
+    if to > 399 {
+        return 3;
+    }
+    0
+}
+
+fn mark_code(kind: u32, day: u32, from: u32, to: u32) -> u8
+    ensures { λ r. ⌜ r ≡ cond (markKinds kind && (leb day from && (leb from to && leb to 399))) 0 3 ⌝ }
+{
+    match kind {
+        1 | 2 | 3 => span_code(day, from, to),
+        0 | 4..=4294967295 => 3,
+    }
+}
+
+fn plan_code(kind: u32) -> u8
+    ensures { λ r. ⌜ r ≡ cond (planKinds kind) 0 3 ⌝ }
+{
+    match kind {
+        1 | 2 => 0,
+        0 | 3..=4294967295 => 3,
+    }
+}
+
+// 3 where the sort, or a field that it names, is outside its limits; else 0.
+pub fn check(e: Event) -> u8
+    ensures { λ r. ⌜ r ≡ cond (inLimits e) 0 3 ⌝ }
+{
+    let sort = e.sort;
+    match sort {
+        1 | 3 => amount_code(e.amount),
+        4 => charge_code(e.kind, e.amount),
+        5 | 6 => wh_code(e.wh),
+        8 => mark_code(e.kind, e.day, e.from, e.to),
+        9 => plan_code(e.kind),
+        2 | 7 | 10 | 11 => 0,
+        0 | 12..=4294967295 => 3,
+    }
+}

@@ -1,0 +1,32 @@
+use mathlib.Core.Path.{_≡_}
+use Prim.Native.Nat.{_+_, _-_}
+use native.Mathlib.Omega.{arith}
+use borrow.Author.Needs.{needs}
+use borrow.Author.Tests.{le-leb, lt-leb}
+use Rattle.marks.specs.Marks.{markRange, marked}
+use Rattle.marks.proofs.set.Statement.{statement}
+use Rattle.marks.proofs.set.Tie as tie
+
+returns : tie.Need-returns
+unfolding marked
+returns c = simp (lt-leb _ _ (c .if1 .taken))
+
+returns-2 : tie.Need-returns-2
+unfolding marked markRange
+returns-2 c =
+    let a = c .before .before .args in
+    let e : a .to + 1 - a .from ≡ 0 = omega arith in
+    simp (le-leb _ _ (c .before .if1 .left), e)
+
+mark-bit-requires : tie.Need-mark-bit-requires
+mark-bit-requires c κs = search needs
+
+set-range-requires : tie.Need-set-range-requires
+set-range-requires c κs = search needs
+
+returns-3 : tie.Need-returns-3
+unfolding marked
+returns-3 c = simp (le-leb _ _ (c .before .before .before .if1 .left)) (rw (c .before .mark-bit .ensures) at (c .set-range .ensures))
+
+pub set-spec : {M : Type 1} → statement M
+set-spec = tie.close (tie.spec returns returns-2 mark-bit-requires set-range-requires returns-3)

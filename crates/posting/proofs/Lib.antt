@@ -1,0 +1,2 @@
+pub mod RowTurn
+pub mod Walk
