@@ -136,7 +136,7 @@ guess-last y left h l =
 abbrev pub dayOf : Place → ℕ
 dayOf p = total lengthAfter (12 * (p .year - 2000)) + p .left
 
--- q is the same day as p, and is nearer to lying in its year by a year
+-- q is the same day as p, in the same year or the next; `room` says how many days q has beyond its year
 pub record Carried (p q : Place) : Type 0 where
   pub low : p .year ≤ q .year
   pub high : q .year ≤ p .year + 1

@@ -1,11 +1,11 @@
 -- What the table's silence says: of an accepted event, that no rule applies, rule by rule.
 -- Assumes nothing.
-use mathlib.Core.Path.{_≡_, refl, sym}
-use mathlib.Core.Bool.{Bool, true, false, cond, not, _&&_, _||_, true≢false}
+use mathlib.Core.Path.{_≡_, refl}
+use mathlib.Core.Bool.{Bool, true, false, not, _&&_, _||_}
 use mathlib.Core.List.{List, [], _∷_}
 use Prim.Native.Nat.{ℕ, zero, suc, _≤_, _<_}
 use lib.ListN.{length, getD}
-use lib.Dec.{ltb, leb, eqb}
+use lib.Dec.{ltb, leb}
 use lib.IntN.{pos}
 use lib.Signed.{ltZ, leZ}
 use native.Mathlib.Omega.{arith}
@@ -16,16 +16,7 @@ use Rattle.ledger.specs.Event.{isPay, isReverse, isEstimate, isRead, isP
 use Rattle.ledger.specs.Entries.{lastDay, payments, reversed, warned, usageDay, isBlank, isMetered, barred}
 use Rattle.ledger.specs.Rules.{Ledger, Rule, planAllowed, refusals, lowest}
 use Rattle.ledger.specs.Ledger.{refusal, accepts}
-use Rattle.ledger.proofs.Cases.{decide}
-
--- Both tests of an "or" that fails fail.
-pub or-left : (a b : Bool) → (a || b) ≡ false → a ≡ false
-or-left true b e = e
-or-left false b e = refl
-
-pub or-right : (a b : Bool) → (a || b) ≡ false → b ≡ false
-or-right true b e = absurd (true≢false e)
-or-right false b e = e
+use Rattle.ledger.proofs.Cases.{decide, neither, both}
 
 pub record Accepted (t : Terms) (l : Ledger) (e : Event) : Type 0 where
   pub order : lastDay (l .list) ≤ e .day
@@ -51,10 +42,6 @@ numbered (r ∷ rs) = ltb 0 (r .0) && numbered rs
 noRule : Rule
 noRule = (0, false)
 
-and-both : (a b : Bool) → (a && b) ≡ true → (a ≡ true) × (b ≡ true)
-and-both true b e = (refl, e)
-and-both false b e = absurd (true≢false (sym e))
-
 -- Where the lowest number is 0, no rule applies.
 none-applies : (rs : List Rule) → numbered rs ≡ true → lowest rs ≡ 0 → (i : ℕ) → getD rs i noRule .1 ≡ false
 unfolding numbered lowest noRule
@@ -64,7 +51,8 @@ none-applies (r ∷ rs) n z i = decide (r .1)
     (λ f. place i f (none-applies rs (above .1) (simp f at z)))
   where
     above : (ltb 0 (r .0) ≡ true) × (numbered rs ≡ true)
-    above = and-both (ltb 0 (r .0)) (numbered rs) n
+    above = both (ltb 0 (r .0)) (numbered rs) n
+
     place : (i : ℕ) → r .1 ≡ false → ((j : ℕ) → getD rs j noRule .1 ≡ false) → getD (r ∷ rs) i noRule .1 ≡ false
     place zero f g = f
     place (suc i) f g = g i
@@ -72,8 +60,8 @@ none-applies (r ∷ rs) n z i = decide (r .1)
 pub accepted-by : (t : Terms) (l : Ledger) (e : Event) → accepts t l e ≡ true → Accepted t l e
 unfolding refusals refusal numbered
 accepted-by t l e a = record {
-  order = ltb-false (e .day) (lastDay (l .list)) (or-left _ (ltb 399 (e .day)) (rule 0));
-  upto = ltb-false 399 (e .day) (or-right (ltb (e .day) (lastDay (l .list))) _ (rule 0));
+  order = ltb-false (e .day) (lastDay (l .list)) (days .0);
+  upto = ltb-false 399 (e .day) (days .1);
   limits = not-false (inLimits e) (rule 1);
   room = leb-false 4096 (length (l .list)) (rule 2);
   code5 = rule 3;
@@ -90,3 +78,6 @@ accepted-by t l e a = record {
   where
     rule : (i : ℕ) → getD (refusals t l e) i noRule .1 ≡ false
     rule = none-applies (refusals t l e) refl (eqb-true (refusal t l e) 0 a)
+
+    days : (ltb (e .day) (lastDay (l .list)) ≡ false) × (ltb 399 (e .day) ≡ false)
+    days = neither (ltb (e .day) (lastDay (l .list))) (ltb 399 (e .day)) (rule 0)

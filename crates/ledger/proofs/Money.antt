@@ -1,7 +1,6 @@
 -- Signed money as the difference of two sums: what `omega` can read of it.
 -- Assumes nothing.
-use mathlib.Core.Path.{_≡_, refl, sym, ap, _∙_}
-use mathlib.Core.Bool.{Bool, true, false, cond}
+use mathlib.Core.Path.{_≡_, sym, ap, _∙_}
 use Prim.Native.Nat.{ℕ, zero, suc, _+_, _-_, _≤_, _<_}
 use native.Mathlib.Omega.{arith}
 use lib.Dec.{ltb, leb}
@@ -22,7 +21,7 @@ pub diff-below : (c d : ℕ) → c < d → diff c d ≡ negsuc (d - suc c)
 diff-below c zero h = absurd (omega arith)
 diff-below c (suc d) h = simp (lt-ltb c (suc d) h)
 
-by-sign : {X : Type 0} (c d : ℕ) → (d ≤ c → X) → (c < d → X) → X
+pub by-sign : {X : Type 0} (c d : ℕ) → (d ≤ c → X) → (c < d → X) → X
 by-sign c d high below = decide (ltb c d) (λ t. below (ltb-true c d t)) (λ f. high (ltb-false c d f))
 
 pub diff-zero : (n : ℕ) → pos n ≡ diff n 0
@@ -47,23 +46,23 @@ diff-sub a b n = +ℤ-assoc (pos a) (negℤ (pos b)) (negℤ (pos n)) ∙ ap (λ
 pub diff-lt : (c d k : ℕ) → ltZ (diff c d) (pos k) ≡ ltb c (d + k)
 diff-lt c d k = by-sign c d
     (λ h. rw (diff-high c d h) (decide (ltb (c - d) k)
-      (λ t. t ∙ sym (lt-ltb c (d + k) (omega (arith, ltb-true (c - d) k t))))
-      (λ f. f ∙ sym (le-ltb c (d + k) (omega (arith, ltb-false (c - d) k f))))))
+    (λ t. t ∙ sym (lt-ltb c (d + k) (omega (arith, ltb-true (c - d) k t))))
+    (λ f. f ∙ sym (le-ltb c (d + k) (omega (arith, ltb-false (c - d) k f))))))
     (λ h. rw (diff-below c d h) (sym (lt-ltb c (d + k) (omega arith))))
 
 pub diff-ge : (c d k : ℕ) → leZ (pos k) (diff c d) ≡ leb (d + k) c
 diff-ge c d k = by-sign c d
     (λ h. rw (diff-high c d h) (decide (leb k (c - d))
-      (λ t. t ∙ sym (le-leb (d + k) c (omega (arith, leb-true k (c - d) t))))
-      (λ f. f ∙ sym (lt-leb (d + k) c (omega (arith, leb-false k (c - d) f))))))
+    (λ t. t ∙ sym (le-leb (d + k) c (omega (arith, leb-true k (c - d) t))))
+    (λ f. f ∙ sym (lt-leb (d + k) c (omega (arith, leb-false k (c - d) f))))))
     (λ h. rw (diff-below c d h) (sym (lt-leb (d + k) c (omega arith))))
 
 pub diff-low : (c d k : ℕ) → leZ (diff c d) (negℤ (pos (suc k))) ≡ leb (c + suc k) d
 diff-low c d k = by-sign c d
     (λ h. rw (diff-high c d h) (sym (lt-leb (c + suc k) d (omega arith))))
     (λ h. rw (diff-below c d h) (decide (leb k (d - suc c))
-      (λ t. t ∙ sym (le-leb (c + suc k) d (omega (arith, leb-true k (d - suc c) t))))
-      (λ f. f ∙ sym (lt-leb (c + suc k) d (omega (arith, leb-false k (d - suc c) f))))))
+    (λ t. t ∙ sym (le-leb (c + suc k) d (omega (arith, leb-true k (d - suc c) t))))
+    (λ f. f ∙ sym (lt-leb (c + suc k) d (omega (arith, leb-false k (d - suc c) f))))))
 
 -- what is lacking to k
 pub diff-gap : (c d k : ℕ) → c ≤ d → natAbs (pos k -ℤ diff c d) ≡ k + d - c

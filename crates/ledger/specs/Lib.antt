@@ -4,3 +4,4 @@ pub mod Rules
 pub mod Ledger
 pub mod Sums
 pub mod Months
+pub mod Figures

@@ -1,12 +1,12 @@
 -- One turn of each loop, at the code's `d + 1` and `d - 1`. Assumes nothing.
-use mathlib.Core.Path.{_≡_, refl, _∙_, ap}
-use mathlib.Core.Bool.{Bool, true, false, cond, not, _&&_, _||_}
+use mathlib.Core.Path.{_≡_, refl, sym, _∙_, ap}
+use mathlib.Core.Bool.{cond, not, _&&_, _||_, or-false}
 use mathlib.Core.List.{List}
 use Prim.Native.Nat.{ℕ, zero, suc, _+_, _-_, _≤_}
 use native.Mathlib.Numerals.{sub-one}
 use native.Mathlib.Omega.{arith}
 use lib.ListN.{getD, set}
-use lib.Dec.{ltb, leb, eqb, eqb·suc-zero}
+use lib.Dec.{ltb, eqb, eqb·suc-zero}
 use lib.Bits.{bitAnd, bitOr}
 use Rattle.marks.specs.Marks.{markRange, latestOf, nearOf, dayBefore, businessLeft}
 use Rattle.marks.specs.declared.Found.the-variants.{At, Missing}
@@ -25,10 +25,10 @@ mark-turn l bit from d h =
     let at : from + (d - from) ≡ d = omega arith in
     ap (markRange l bit from) e ∙ ap (or-at (markRange l bit from (d - from)) bit) at
 
-pub latest-none : (l : List ℕ) (d n : ℕ) → n ≡ 0 → latestOf l d n ≡ Missing
+pub latest-over : (l : List ℕ) (d n : ℕ) → n ≡ 0 → latestOf l d n ≡ Missing
 unfolding latestOf
-latest-none l zero n e = rw e
-latest-none l (suc d) n e = rw e
+latest-over l zero n e = rw e
+latest-over l (suc d) n e = rw e
 
 pub latest-first : (l : List ℕ) (d n : ℕ) → d ≡ 0 → latestOf l d n ≡ Missing
 unfolding latestOf
@@ -41,11 +41,7 @@ latest-turn l zero n d≢0 n≢0 = absurd (d≢0 refl)
 latest-turn l (suc d) zero d≢0 n≢0 = absurd (n≢0 refl)
 latest-turn l (suc d) (suc n) d≢0 n≢0 = simp sub-one
 
-or-none : (b : Bool) → b ≡ (b || false)
-or-none true = refl
-or-none false = refl
-
 pub near-turn : (l : List ℕ) (w d left : ℕ) → nearOf l w d left ≡ (not (eqb (bitAnd (getD l d 0) 1) 0) || (not (eqb d 0) && (not (ltb w 5 && eqb left 0) && nearOf l (dayBefore w) (d - 1) (businessLeft w left))))
 unfolding nearOf
-near-turn l w zero left = or-none _
+near-turn l w zero left = sym (or-false _)
 near-turn l w (suc d) left = simp (sub-one, eqb·suc-zero)

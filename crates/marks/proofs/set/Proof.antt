@@ -9,7 +9,7 @@ use Rattle.marks.proofs.set.Tie as tie
 
 returns : tie.Need-returns
 unfolding marked
-returns c = simp (lt-leb _ _ (c .if1 .taken))
+returns c = simp (lt-leb (c .before .args .to) 399 (omega arith))
 
 returns-2 : tie.Need-returns-2
 unfolding marked markRange

@@ -1,8 +1,9 @@
 use Prim.Native.Nat.{_≤_}
 use mathlib.Core.Path.{_≡_, sym, _∙_}
-use mathlib.Core.Bool.{false, _&&_}
+use mathlib.Core.Bool.{false, _&&_, and-false}
 use mathlib.Core.Logic.{inl, inr}
 use lib.Dec.{ltb, eqb}
+use native.Mathlib.Omega.{arith}
 use borrow.Author.Needs.{needs}
 use borrow.Author.Tests.{eq-eqb, ne-eqb, le-leb, lt-leb, lt-ltb, le-ltb}
 use Rattle.marks.specs.Marks.{nearOf, weatherNear}
@@ -20,8 +21,8 @@ abbrev μ-loop : tie.MeasureT-loop
 -- the day does not use up the last business day
 goes-on : (c : tie.Joined4 Inv-loop μ-loop) → (ltb (c .before .before .before .before .loop .w) 5 && eqb (c .before .before .before .before .loop .left) 0) ≡ false
 goes-on c = elim (c .if4 .came) [
-  | inl w ↦ simp (lt-ltb _ _ (w .0 .taken), ne-eqb _ _ (w .1 .left))
-  | inr w ↦ simp (le-ltb _ _ (w .left))
+  | inl w ↦ simp (ne-eqb _ _ (w .1 .left), and-false)
+  | inr w ↦ simp (le-ltb (c .before .before .before .before .loop .w) 5 (omega arith))
 ]
 
 returns : tie.Need-returns Inv-loop μ-loop
@@ -51,7 +52,7 @@ returns-3 c =
 returns-4 : tie.Need-returns-4 Inv-loop μ-loop
 returns-4 c =
     let l = c .before .before .before .before .before .loop in
-    sym (l .inv .1 ∙ near-turn _ (l .w) (l .d) (l .left) ∙ simp (eq-eqb _ _ (c .before .before .before .if2 .left), ne-eqb _ _ (c .before .before .if3 .left), lt-ltb _ _ (c .before .if4 .taken), eq-eqb _ _ (c .if5 .taken)))
+    sym (l .inv .1 ∙ near-turn _ (l .w) (l .d) (l .left) ∙ simp (eq-eqb _ _ (c .before .before .before .if2 .left), ne-eqb _ _ (c .before .before .if3 .left), lt-ltb (l .w) 5 (omega arith), eq-eqb _ _ (c .if5 .taken)))
 
 business-left-requires : tie.Need-business-left-requires Inv-loop μ-loop
 business-left-requires c κs = search needs
