@@ -10,7 +10,6 @@ use ledger::Event;
 ghost use mathlib.Core.Path.{_≡_};
 ghost use Prim.Native.Nat.{suc, _≤_};
 ghost use Rattle.tariff.specs.Tariff.{costOf};
-ghost use Rattle.account.specs.Record.{costHeld};
 ghost use Rattle.account.specs.Head.{earlyCode, estimateOf, estimatedOf, readOf, meteredOf};
 
 // The cost of Wh within their limits at a price within its limits.
@@ -19,17 +18,6 @@ fn day_cost(wh: u32, price: u32) -> u32
     ensures { λ r. ⌜ r ≡ costOf wh price ⌝ }
 {
     tariff::cost(wh, price) as u32
-}
-
-// What B gave for the day so far: the cost of its estimate.
-fn held(u: Usage) -> u32
-    ensures { λ r. ⌜ r ≡ costHeld u ⌝ }
-{
-    match u {
-        Usage::Blank => 0,
-        Usage::Estimated { wh: _, cost } => cost,
-        Usage::Metered { wh: _, cost: _ } => 0,
-    }
 }
 
 fn estimated(a: Account, e: Event) -> Posted

@@ -1,2 +1,3 @@
 pub mod Calendar
 pub mod Work
+pub mod Days

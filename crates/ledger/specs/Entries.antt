@@ -1,9 +1,10 @@
 -- The list L of accepted events and what is read off the terms and L (document 01, "The ledger of demand 3").
-use Prim.Native.Nat.{ℕ, zero, suc, _+_}
+use Prim.Native.Nat.{ℕ, suc, _+_}
 use mathlib.Core.Bool.{Bool, true, false, cond, not, _&&_, _||_}
 use mathlib.Core.List.{List, [], _∷_}
 use lib.Dec.{ltb, leb, eqb}
 use Rattle.calendar.specs.Calendar.{dateOn, weekdayOf}
+use Rattle.calendar.specs.Days.{anyDay, countDays}
 use Rattle.tariff.specs.Tariff.{costOf}
 use Rattle.terms.specs.declared.Terms.{Terms}
 use Rattle.ledger.specs.declared.Event.{Event}
@@ -127,16 +128,6 @@ barred t d l = leb 5 (weekday t d) || (covered 1 d l || (covered 2 d l || covere
 -- "Business days are Monday to Friday." (T-03: holidays are none.)
 unfoldable pub business : Terms → Entries → ℕ → Bool
 business t l d = ltb (weekday t d) 5
-
--- How many of days 0 to n - 1 have p.
-unfoldable pub countDays : (ℕ → Bool) → ℕ → ℕ
-countDays p zero = 0
-countDays p (suc n) = countDays p n + cond (p n) 1 0
-
--- Whether one of days 0 to n - 1 has p.
-unfoldable pub anyDay : (ℕ → Bool) → ℕ → Bool
-anyDay p zero = false
-anyDay p (suc n) = p n || anyDay p n
 
 -- "some weather day w ≤ x has at most one business day among days w+1 to x"
 unfoldable pub weatherNear : Terms → Entries → ℕ → Bool

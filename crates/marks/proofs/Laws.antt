@@ -10,13 +10,11 @@ use lib.Seq.{getD-set-same, getD-set-other}
 use lib.Dec.{ltb, leb, eqb, leb·zero, leb·suc-zero, leb·suc-suc, eqb·suc-zero}
 use lib.Bits.{bitAnd, bitOr}
 use borrow.Author.Tests.{ltb-true, ltb-false, leb-true, leb-false, eqb-true, eqb-false, lt-ltb, le-ltb, le-leb, lt-leb, ne-eqb}
-use Rattle.marks.specs.Marks.{markBit, markRange, latestOf, dayBefore, businessLeft, nearOf, marked, latestWarning, weatherNear}
+use Rattle.calendar.specs.Days.{anyDay, countDays}
+use Rattle.calendar.proofs.Sums.{decide}
+use Rattle.marks.specs.Marks.{isMissing, markBit, markRange, latestOf, dayBefore, businessLeft, nearOf, marked, latestWarning, weatherNear}
 use Rattle.marks.specs.declared.Found.{Found}
 use Rattle.marks.specs.declared.Found.the-variants.{At, Missing}
-
-decide : {X : Type 0} (b : Bool) → (b ≡ true → X) → (b ≡ false → X) → X
-decide true t f = t refl
-decide false t f = f refl
 
 -- ---- setting a mark
 
@@ -64,11 +62,7 @@ marked-at l kind from to d len h hd = simp (le-leb to 399 h) (decide (leb from d
 
 -- ---- the newest warning
 
-abbrev pub isMissing′ : Found → Bool
-isMissing′ (At d) = false
-isMissing′ Missing = true
-
-of-some : (l : List ℕ) (d n w : ℕ) → getD l w 0 ≡ 1 → w < d → d ≤ w + n → isMissing′ (latestOf l d n) ≡ false
+of-some : (l : List ℕ) (d n w : ℕ) → getD l w 0 ≡ 1 → w < d → d ≤ w + n → isMissing (latestOf l d n) ≡ false
 unfolding latestOf
 of-some l zero n w e a b = absurd (omega arith)
 of-some l (suc d) zero w e a b = absurd (omega arith)
@@ -78,78 +72,70 @@ of-some l (suc d) (suc n) w e a b = decide (eqb (getD l d 0) 1)
       let ne : w ≡ d → ⊥ = λ s. eqb-false (getD l d 0) 1 f (rw s at e) in
       simp f (of-some l d n w e (omega arith) (omega arith)))
 
-of-none : (l : List ℕ) (d n : ℕ) → ((w : ℕ) → w < d → d ≤ w + n → getD l w 0 ≡ 1 → ⊥) → isMissing′ (latestOf l d n) ≡ true
+of-none : (l : List ℕ) (d n : ℕ) → ((w : ℕ) → w < d → d ≤ w + n → getD l w 0 ≡ 1 → ⊥) → isMissing (latestOf l d n) ≡ true
 unfolding latestOf
 of-none l zero zero h = refl
 of-none l (suc d) zero h = refl
 of-none l zero (suc n) h = refl
 of-none l (suc d) (suc n) h = simp (ne-eqb (getD l d 0) 1 (h d (omega arith) (omega arith))) (of-none l d n (λ w a b. h w (omega arith) (omega arith)))
 
-pub latest-some : (l : List ℕ) (x w : ℕ) → x ≤ 399 → getD l w 0 ≡ 1 → w < x → x ≤ w + 7 → isMissing′ (latestWarning l x) ≡ false
+pub latest-some : (l : List ℕ) (x w : ℕ) → x ≤ 399 → getD l w 0 ≡ 1 → w < x → x ≤ w + 7 → isMissing (latestWarning l x) ≡ false
 unfolding latestWarning
 latest-some l x w h e a b = simp (le-leb x 399 h) (of-some l x 7 w e a b)
 
-pub latest-none : (l : List ℕ) (x : ℕ) → x ≤ 399 → ((w : ℕ) → w < x → x ≤ w + 7 → getD l w 0 ≡ 1 → ⊥) → isMissing′ (latestWarning l x) ≡ true
+pub latest-none : (l : List ℕ) (x : ℕ) → x ≤ 399 → ((w : ℕ) → w < x → x ≤ w + 7 → getD l w 0 ≡ 1 → ⊥) → isMissing (latestWarning l x) ≡ true
 unfolding latestWarning
 latest-none l x h none = simp (le-leb x 399 h) (of-none l x 7 none)
 
 -- ---- the weather day near
 
-unfoldable pub countDays′ : (ℕ → Bool) → ℕ → ℕ
-countDays′ p zero = 0
-countDays′ p (suc n) = countDays′ p n + cond (p n) 1 0
-
-unfoldable pub anyDay′ : (ℕ → Bool) → ℕ → Bool
-anyDay′ p zero = false
-anyDay′ p (suc n) = p n || anyDay′ p n
-
 -- the business days among days w + 1 to x
-abbrev pub since′ : (ℕ → Bool) → ℕ → ℕ → ℕ
-since′ business w x = countDays′ (λ (d : ℕ). ltb w d && business d) (suc x)
+abbrev pub since : (ℕ → Bool) → ℕ → ℕ → ℕ
+since business w x = countDays (λ (d : ℕ). ltb w d && business d) (suc x)
 
 -- some weather day w ≤ x has at most `left` business days among days w + 1 to x
-abbrev pub nearBy′ : (ℕ → Bool) → (ℕ → Bool) → ℕ → ℕ → Bool
-nearBy′ weather business x left = anyDay′ (λ (w : ℕ). weather w && leb (since′ business w x) left) (suc x)
+abbrev pub nearBy : (ℕ → Bool) → (ℕ → Bool) → ℕ → ℕ → Bool
+nearBy weather business x left = anyDay (λ (w : ℕ). weather w && leb (since business w x) left) (suc x)
 
 abbrev pub anyNear : (ℕ → Bool) → (ℕ → Bool) → ℕ → Bool
-anyNear weather business x = nearBy′ weather business x 1
+anyNear weather business x = nearBy weather business x 1
 
-any-step : (p : ℕ → Bool) (n : ℕ) → anyDay′ p (suc n) ≡ (p n || anyDay′ p n)
-unfolding anyDay′
+any-step : (p : ℕ → Bool) (n : ℕ) → anyDay p (suc n) ≡ (p n || anyDay p n)
+unfolding anyDay
 any-step p n = refl
 
-any-none : (p : ℕ → Bool) (n : ℕ) → ((w : ℕ) → w < n → p w ≡ false) → anyDay′ p n ≡ false
-unfolding anyDay′
+any-none : (p : ℕ → Bool) (n : ℕ) → ((w : ℕ) → w < n → p w ≡ false) → anyDay p n ≡ false
+unfolding anyDay
 any-none p zero h = refl
 any-none p (suc n) h = simp (h n (omega arith)) (any-none p n (λ w a. h w (omega arith)))
 
-any-same : (p q : ℕ → Bool) (n : ℕ) → ((w : ℕ) → w < n → p w ≡ q w) → anyDay′ p n ≡ anyDay′ q n
-unfolding anyDay′
+any-same : (p q : ℕ → Bool) (n : ℕ) → ((w : ℕ) → w < n → p w ≡ q w) → anyDay p n ≡ anyDay q n
+unfolding anyDay
 any-same p q zero h = refl
 any-same p q (suc n) h = rw (h n (omega arith), any-same p q n (λ w a. h w (omega arith)))
 
-none-since : (business : ℕ → Bool) (w n : ℕ) → n ≤ suc w → countDays′ (λ (d : ℕ). ltb w d && business d) n ≡ 0
-unfolding countDays′
+none-since : (business : ℕ → Bool) (w n : ℕ) → n ≤ suc w → countDays (λ (d : ℕ). ltb w d && business d) n ≡ 0
+unfolding countDays
 none-since business w zero h = refl
 none-since business w (suc n) h = simp (le-ltb w n (omega arith), none-since business w n (omega arith))
 
-one-more : (business : ℕ → Bool) (b : Bool) (w x : ℕ) → w ≤ x → business (suc x) ≡ b → since′ business w (suc x) ≡ cond b (suc (since′ business w x)) (since′ business w x)
-unfolding countDays′
+one-more : (business : ℕ → Bool) (b : Bool) (w x : ℕ) → w ≤ x → business (suc x) ≡ b → since business w (suc x) ≡ cond b (suc (since business w x)) (since business w x)
+unfolding countDays
 one-more business true w x h e = simp (lt-ltb w (suc x) (omega arith), e) (omega arith)
 one-more business false w x h e = simp (lt-ltb w (suc x) (omega arith), e) (omega arith)
 
-on-day : (weather business : ℕ → Bool) (x left : ℕ) → (weather x && leb (since′ business x x) left) ≡ weather x
+on-day : (weather business : ℕ → Bool) (x left : ℕ) → (weather x && leb (since business x x) left) ≡ weather x
 on-day weather business x left = simp (none-since business x (suc x) (omega arith), leb·zero left, and-true (weather x))
 
 earlier : (weather business : ℕ → Bool) (b : Bool) (x left : ℕ) → business (suc x) ≡ b
-    → anyDay′ (λ (w : ℕ). weather w && leb (since′ business w (suc x)) left) (suc x) ≡ (not (b && eqb left 0) && nearBy′ weather business x (cond b (left - 1) left))
+    → anyDay (λ (w : ℕ). weather w && leb (since business w (suc x)) left) (suc x) ≡ (not (b && eqb left 0) && nearBy weather business x (cond b (left - 1) left))
 earlier weather business false x left e = any-same _ _ (suc x) (λ w h. rw (one-more business false w x (omega arith) e))
-earlier weather business true x zero e = any-none _ (suc x) (λ w h. rw (one-more business true w x (omega arith) e, leb·suc-zero (since′ business w x)) (and-false (weather w)))
+earlier weather business true x zero e = any-none _ (suc x) (λ w h. rw (one-more business true w x (omega arith) e, leb·suc-zero (since business w x)) (and-false (weather w)))
 earlier weather business true x (suc left) e =
-    rw (eqb·suc-zero left) (any-same _ _ (suc x) (λ w h. rw (one-more business true w x (omega arith) e, leb·suc-suc (since′ business w x) left, sub-one)))
+    rw (eqb·suc-zero left) (any-same _ _ (suc x) (λ w h. rw (one-more business true w x (omega arith) e, leb·suc-suc (since business w x) left, sub-one)))
 
 near-more : (weather business : ℕ → Bool) (b : Bool) (x left : ℕ) → business (suc x) ≡ b
-    → nearBy′ weather business (suc x) left ≡ (weather (suc x) || (not (b && eqb left 0) && nearBy′ weather business x (cond b (left - 1) left)))
+    → nearBy weather business (suc x) left ≡ (weather (suc x) || (not (b && eqb left 0) && nearBy weather business x (cond b (left - 1) left)))
 near-more weather business b x left e = any-step _ (suc x) ∙ rw (on-day weather business (suc x) left, earlier weather business b x left e)
 
 left-is : (w left : ℕ) → businessLeft w left ≡ cond (ltb w 5) (left - 1) left
@@ -159,8 +145,8 @@ module _ (l : List ℕ) (weather business : ℕ → Bool) (weekdayAt : ℕ → �
     (bit : (d : ℕ) → d < 400 → not (eqb (bitAnd (getD l d 0) 1) 0) ≡ weather d)
     (days : (d : ℕ) → business d ≡ ltb (weekdayAt d) 5)
     (before : (d : ℕ) → dayBefore (weekdayAt (suc d)) ≡ weekdayAt d) where
-  near-all : (d left : ℕ) → d < 400 → nearOf l (weekdayAt d) d left ≡ nearBy′ weather business d left
-  unfolding nearOf anyDay′
+  near-all : (d left : ℕ) → d < 400 → nearOf l (weekdayAt d) d left ≡ nearBy weather business d left
+  unfolding nearOf anyDay
   near-all zero left h = bit 0 h ∙ sym (or-false _ ∙ on-day weather business 0 left)
   near-all (suc d) left h =
     let w = weekdayAt (suc d) in

@@ -25,6 +25,10 @@ latestOf warned (suc d) zero = Missing
 latestOf warned zero (suc n) = Missing
 latestOf warned (suc d) (suc n) = cond (eqb (getD warned d 0) 1) (At d) (latestOf warned d n)
 
+abbrev pub isMissing : Found → Bool
+isMissing (At d) = false
+isMissing Missing = true
+
 abbrev pub dayBefore : ℕ → ℕ
 dayBefore w = cond (eqb w 0) 6 (w - 1)
 

@@ -1,2 +1,3 @@
 pub mod RowTurn
+pub mod StepCall
 pub mod Walk

@@ -13,11 +13,11 @@ pub fn post(a: &mut Account, e: Event) -> Answer
     ensures { λ r. ⌜ IsPosted (stepOf (now (a .entry)) e) (now (a .exit)) r ⌝ }
 {
     let before = *a;
-    let p = step(before, e);
-    *a = p.account;
+    let posted = step(before, e);
+    *a = posted.account;
     Answer {
-        code: p.code,
-        value: p.value,
+        code: posted.code,
+        value: posted.value,
     }
 }
 

@@ -4,7 +4,8 @@ use mathlib.Core.List.{map}
 use Rattle.tariff.specs.Tariff.{costOf}
 use Rattle.calendar.specs.Calendar.{monthLength, nextOf, dateOn, total, lengthAfter, daysAfter, weekdayAfter, weekdayOf}
 use Rattle.ledger.specs.Event.{inLimits}
-use Rattle.ledger.specs.Entries.{any, count, sum, find, lastDay, payments, payment, reversed, warned, priceOn, usageDay, covered, barred, business, countDays, anyDay, weatherNear}
+use Rattle.ledger.specs.Entries.{any, count, sum, find, lastDay, payments, payment, reversed, warned, priceOn, usageDay, covered, barred, business, weatherNear}
+use Rattle.calendar.specs.Days.{countDays, anyDay}
 use Rattle.ledger.specs.Rules.{planAllowed, refusals, lowest}
 use Rattle.ledger.specs.Ledger.{planPart, payMove, reverseMove, estimateMove, readMove, deferred, planMove, moveOf, refusal, ledgerStep}
 use Rattle.ledger.specs.Figures.{Figure, run, shown, figures}

@@ -1,8 +1,7 @@
--- `posting::post_row` meets its contract: a walk of its MIR, by hand, with a loop. The three borrows are opened once, before the loop, and closed once, after it.
--- The loop goes by `Types/Run.antt`'s `loops`: the variant is the whole state of a turn (`St`), ordered by how many events are left. What holds of a state is `RowTurn.antt`'s `Fine`.
--- Assumes nothing.
+-- `post_row` meets its contract: a walk of its MIR, by hand, with a loop. The three borrows are opened once, before the loop, and closed once, after it.
+-- The loop's variant is the whole state of a turn (`St`), ordered by how many events are left. What holds of a state is RowTurn.antt's `Fine`.
 use mathlib.Core.Path.{_≡_, refl, sym, ap, subst}
-use Prim.Native.Nat.{ℕ, _+_, _-_, _*_, _<_, _≤_, _^_}
+use Prim.Native.Nat.{ℕ, _+_, _-_, _<_, _≤_, _^_}
 use native.Mathlib.Omega.{arith}
 use mathlib.Core.Bool.{Bool, true, false, not}
 use mathlib.Core.List.{[], _∷_, List}
@@ -14,12 +13,12 @@ use lib.ListN.{length, getD, set}
 use lib.WfN.{Nat·lt-wfRel}
 use mir.Syntax.{Ty, named, imm, mut, w8, w64, tyInt, tyBool, tyPtr, tyRef}
 use mir.Val.{Val, vint, vbool, vptr}
-use base.Logic.{SProp, ent, sep, emp, via, fst∗, snd∗, exE, id⊢}
-use base.Fml.{GName, Lft, Share, ftrue, fat, froom, fdies, flft, fobs, fauth, fres, fbor, fobor, fshr-bor}
+use base.Logic.{SProp, ent, emp, via, fst∗, id⊢}
+use base.Fml.{GName, Share, ftrue, fat, froom, fdies, flft, fobs, fauth, fres, fbor, fobor, fshr-bor}
 use prog.Memory.{Memory}
 use prog.Routine.{Routine}
 use prog.Wp.{Heap, Env, Calls, Loops, WpFn, Tables, afterTurn, exits as leaves}
-use ghost.Atoms.{Atoms, sem}
+use ghost.Atoms.{Atoms}
 use contract.Monad.{Fun, fact}
 use contract.Lifetimes.{Lfts, Shares}
 use contract.Running.{givenOf, tables, tablesOf}
@@ -29,7 +28,7 @@ use types.Run.{look, look-raw, init, store, store-raw, forget, stop, hop, fld, f
 use types.Part.{whole, sub, look-in}
 use types.SemTy.{Body}
 use types.Share.{arr-parts}
-use sound.WpLaws.{FmC, fmOf, WpFn-mono}
+use sound.WpLaws.{fmOf, WpFn-mono}
 use denote.RattleType.{owns}
 use denote.Laws.{Is, shows}
 use denote.Memory.{mem, cellAt, shares, pointee}
@@ -44,43 +43,38 @@ use denote.Slice.{sliceTy, sliceVal, MutSlice, ShrSlice, Room, at-slice, heres, 
 use denote.Steps.{only, opens, closes, owned, peeks, heard, nothing}
 use denote.Struct.Steps.{spelt}
 use denote.Struct.Laws as LL
-use denote.Triple.Statement.{Contract, Triple}
+use denote.Triple.Statement.{Triple}
 use denote.Triple.Call.{calls-at}
-use denote.Triple.Clauses.{ensured, lasts}
+use denote.Triple.Clauses.{ensured}
 use denote.Triple.Entry.{onEntry}
 use denote.Triple.Spec.{Meets, tripleOf}
 use denote.Triple.Table.{entered, cited}
 use denote.Triple.Walked.{says, Stays, stay-ref, stay-slice, stay-none-slice, walkOf, AllGo, goes-ref, goes-slice, goes-none-slice, Walks, ends-at, walked, walk-meets}
 use denote.Exit.{yes}
 use borrow.Author.Tests.{ltb-true, ltb-false}
-use Rattle.account.specs.Head.{stepOf}
-use Rattle.posting.specs.Posting.{rowOf, IsRow}
-use Rattle.account.specs.declared.Account.{Account}
 use Rattle.ledger.specs.declared.Event.{Event}
-use Rattle.account.specs.declared.Posted.{Posted}
-use Rattle.posting.proofs.Walk.{guards, whiles}
-use Rattle.posting.proofs.RowTurn.{Fine, starts, goes-on, ends, short}
-use Rattle.account.proofs.Account as T
-use Rattle.account.proofs.Account.Laws as T′
 use Rattle.ledger.proofs.Event as E
 use Rattle.ledger.proofs.Event.Laws as E′
+use Rattle.account.specs.Head.{stepOf}
+use Rattle.account.specs.declared.Account.{Account}
+use Rattle.account.specs.declared.Posted.{Posted}
+use Rattle.account.proofs.Account as T
+use Rattle.account.proofs.Account.Laws as T′
 use Rattle.account.proofs.Posted as P
 use Rattle.account.proofs.Posted.Laws as P′
 use Rattle.account.proofs.step as step
 use Rattle.account.proofs.step.Symbol as step-def
 use Rattle.account.proofs.step.Symbol.{name as #account·step}
 use Rattle.account.proofs.step.Met as step-thm
+use Rattle.posting.specs.Posting.{rowOf, IsRow}
+use Rattle.posting.proofs.RowTurn.{Fine, starts, goes-on, ends, short}
+use Rattle.posting.proofs.StepCall.{valT, valE, account-is, Stepped, stepped-of, to-step, goes-step}
+use Rattle.posting.proofs.Walk.{guards, whiles}
 use Rattle.posting.proofs.post_row.Key.{name as #post-row}
 use Rattle.posting.proofs.post_row as f
 use Rattle.posting.proofs.post_row.Statement as stated
 use Rattle.posting.proofs.post_row.Code as code
 use Rattle.posting.proofs.post_row.Code.Mir as code-mir
-
-abbrev valT : Account → Val
-valT = LL.val T.the-type T′.the-laws
-
-abbrev valE : Event → Val
-valE = LL.val E.the-type E′.the-laws
 
 -- the event that stands for what lies past the end
 abbrev none : Event
@@ -111,22 +105,6 @@ codesTy = sliceTy (tyRef (named 2) mut byte)
 
 abbrev stayed : Stays (f.ended .signature .params) (f.ended .kept)
 stayed = (stay-ref (0 ∷ []) tt (plain (λ _. T.the-row)), (stay-none-slice (1 ∷ []) tt (plain (λ _. E.the-row)) yes, (stay-slice (2 ∷ []) tt (plain (λ _. u8)), tt)))
-
-module _ {M : Type 1} (𝓤 : URA M) (H : Heap 𝓤) (A : Atoms 𝓤) (at-mem : Memory → SProp 𝓤) (run : Routine → Fun 𝓤) where
-  abbrev Stepped : Contract 𝓤
-  Stepped = tripleOf 𝓤 H A step.signature (step.spec 𝓤 H A at-mem run)
-
-  stepped-of : (h : Account) (e : Event) (r : Posted) → ent 𝓤 (ensured 𝓤 H A step.ended (step.clauses 𝓤 H A at-mem run) tt (h, (e, tt)) tt r) (fact 𝓤 (r ≡ stepOf h e))
-  stepped-of h e r = exE 𝓤 _ (λ ws. snd∗ 𝓤 (sem 𝓤 H A (lasts step.ended tt (h, (e, tt)) ws)) (fact 𝓤 (r ≡ stepOf h e)))
-
-  abbrev to-step : (h : Account) (e : Event) → Stepped .Ghost
-  to-step h e = ((tt, tt, tt, (h, (e, tt)), (valT h ∷ [], (valE e ∷ [], tt))), tt)
-
-  -- what `step` is passed owns facts alone, so it is had for nothing
-  goes-step : (W : Given 𝓤 H A) (h : Account) (e : Event) → Is T.the-row h (valT h ∷ []) → Is E.the-row e (valE e ∷ []) → ent 𝓤 (emp 𝓤) (Stepped .pre (to-step h e))
-  goes-step W h e gh ge =
-      qed W [] ∵ nothing ! $ nothing ! $ owned ! E.the-row (Is E.the-row) (LL.makes E.the-type E′.the-plain 𝓤 H A) e _ ge $ fjoin ! $
-      owned ! T.the-row (Is T.the-row) (LL.makes T.the-type T′.the-plain 𝓤 H A) h _ gh $ fjoin ! $ nothing ! $ join ! $ frame ! $ done !
 
 module _ {M : Type 1} (𝓤 : URA M) (H : Heap 𝓤) (A : Atoms 𝓤) (W : Given 𝓤 H A) (at-mem : Memory → SProp 𝓤) (run : Routine → Fun 𝓤) (κs : Lfts 3) (qs : Shares 3)
     (ba oa : ℕ) (γa : GName) (h₀ : Account) (br or : ℕ) (γr : GName) (es : List Event) (bc oc : ℕ) (γc : GName) (cs : List ℕ)
@@ -233,7 +211,7 @@ module _ {M : Type 1} (𝓤 : URA M) (H : Heap 𝓤) (A : Atoms 𝓤) (W : Given
         peeks ! P.the-row (Is P.the-row) (shows 𝓤 H A P.the-row) r (v ∷ []) (λ is. drop ! $
         land ! (from ! (stop !)) (init ! 29 refl (LL.lawful P.the-type P′.the-laws 𝓤 H A W .typed r _ is .0)) $
         rewrite ! 29 (λ (us : List Val). ‵ (fat fullShare P′.mir l₅ 0 (only us))) (LL.tells P.the-type P′.the-laws r (v ∷ []) is) refl $
-        assigns ! (of-opd ! (load ! (from ! (fld ! refl (stop !))) (look-in ! 29 (sub ! 0 refl (whole !))))) (from ! (hop ! (look ! 37 refl) (stop !))) (store-raw ! 7 refl (LL.lawful T.the-type T′.the-laws 𝓤 H A W .typed (r .account) _ (LL.owed P.the-type P′.the-laws r (v ∷ []) is .0) .0)) $
+        assigns ! (of-opd ! (load ! (from ! (fld ! refl (stop !))) (look-in ! 29 (sub ! 0 refl (whole !))))) (from ! (hop ! (look ! 37 refl) (stop !))) (store-raw ! 7 refl (LL.lawful T.the-type T′.the-laws 𝓤 H A W .typed (r .account) _ (account-is r v is) .0)) $
         assigns ! (bin ! (load ! (from ! (fld ! refl (stop !))) (look-in ! 33 (sub ! 0 refl (whole !)))) (load ! (from ! (stop !)) (look ! 31 refl)) tt) (from ! (stop !)) (init ! 11 refl (tt, tt)) $
         -- the code is written
         move ! (1 ∷ []) $ elem-out ! u8 (Is u8) (shows 𝓤 H A u8) (uint-vals w8) (uint-tells w8) fullShare (s .ys) (s .i) 0 bc oc in-codes (λ _. move ! (1 ∷ []) $ drop ! $
@@ -248,7 +226,7 @@ module _ {M : Type 1} (𝓤 : URA M) (H : Heap 𝓤) (A : Atoms 𝓤) (W : Given
           h = r .account;
           ys = set (s .ys) (s .i) (r .code);
           fine = subst (λ (p : Posted). Fine h₀ es cs (s .i + 1) (p .account) (set (s .ys) (s .i) (p .code))) (sym eq) (goes-on h₀ es cs (s .i) (s .h) (s .ys) none less room (s .fine));
-          is = LL.owed P.the-type P′.the-laws r (v ∷ []) is .0;
+          is = account-is r v is;
         }) (omega arith)))))))
     turn s p left false t =
         assigns ! (of-opd ! (load ! (from ! (fld ! refl (stop !))) (look-in ! 35 (sub ! 1 refl (whole !))))) (from ! (stop !)) (init ! 21 refl (tt, record { fits = roomE .0 })) $

@@ -1,0 +1,4 @@
+pub mod Ways
+pub mod Early
+pub mod Arms
+pub mod Cost

@@ -1,0 +1,54 @@
+-- `account::service::connect` meets its contract.
+-- Assumes nothing.
+use mathlib.Core.Path.{sym, _∙_}
+use native.Mathlib.Omega.{arith}
+use borrow.Author.Needs.{needs}
+use borrow.Author.Tests.{lt-ltb, le-ltb}
+use Rattle.account.specs.Head.{connectOf}
+use Rattle.account.proofs.Ways.{yes, no}
+use Rattle.account.proofs.Early.{Early, early}
+use Rattle.account.proofs.service.connect.Statement.{statement}
+use Rattle.account.proofs.service.connect.Tie as tie
+
+known : (c : tie.Start) → Early (c .args .a .terms) (c .args .a .totals) (c .args .e)
+known c = early _ _ _ (c .pre .0)
+
+refuse-requires : tie.Need-refuse-requires
+refuse-requires c κs = search needs
+
+returns : tie.Need-returns
+unfolding connectOf
+returns c = c .refuse .ensures ∙ sym (yes _ _ _ (c .before .if1 .taken))
+
+cast-if2 : tie.Need-cast-if2
+cast-if2 c = search needs
+
+add-if2 : tie.Need-add-if2
+add-if2 c = let k = known (c .before .before .before .before .before) in omega arith
+
+refuse-requires-2 : tie.Need-refuse-requires-2
+refuse-requires-2 c κs = search needs
+
+returns-2 : tie.Need-returns-2
+unfolding connectOf
+returns-2 c = c .refuse2 .ensures ∙ sym (no _ _ _ (c .before .before .before .before .before .if1 .left) ∙ yes _ _ _ (lt-ltb _ _ (c .before .if2 .taken)))
+
+served-requires : tie.Need-served-requires
+served-requires c κs = search needs
+
+returns-3 : tie.Need-returns-3
+unfolding connectOf
+returns-3 c = c .served .ensures ∙ sym (no _ _ _ (c .before .before .before .before .before .if1 .left) ∙ no _ _ _ (le-ltb _ _ (c .before .if2 .left)))
+
+pub connect-spec : {M : Type 1} → statement M
+connect-spec =
+    tie.close
+    (tie.spec
+    refuse-requires
+    returns
+    cast-if2
+    add-if2
+    refuse-requires-2
+    returns-2
+    served-requires
+    returns-3)

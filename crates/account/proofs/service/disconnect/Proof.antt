@@ -1,0 +1,122 @@
+-- `account::service::disconnect` meets its contract.
+-- Assumes nothing.
+use mathlib.Core.Path.{_≡_, sym, ap, _∙_}
+use mathlib.Core.Bool.{true, false, cond}
+use Rattle.marks.specs.Marks.{barringOn}
+use native.Mathlib.Omega.{arith}
+use borrow.Author.Needs.{needs}
+use borrow.Author.Tests.{le-leb, lt-leb}
+use Rattle.account.specs.Head.{disconnectOf, servedOf, isMissing, barredTest}
+use Rattle.account.specs.Record.{refused}
+use Rattle.account.proofs.Ways.{yes, no}
+use Rattle.account.proofs.Early.{Early, early}
+use Rattle.account.proofs.service.disconnect.Statement.{statement}
+use Rattle.account.proofs.service.disconnect.Tie as tie
+
+known : (c : tie.Start) → Early (c .args .t1 .terms) (c .args .t1 .totals) (c .args .e)
+known c = early _ _ _ (c .pre .0)
+
+refuse-requires : tie.Need-refuse-requires
+refuse-requires c κs = search needs
+
+returns : tie.Need-returns
+unfolding disconnectOf
+returns c = c .refuse .ensures ∙ sym (yes _ _ _ (c .before .if1 .taken))
+
+cast-if2 : tie.Need-cast-if2
+cast-if2 c = search needs
+
+add-if2 : tie.Need-add-if2
+add-if2 c = let k = known (c .before .before .before .before .before .before .before) in omega arith
+
+refuse-requires-2 : tie.Need-refuse-requires-2
+refuse-requires-2 c κs = search needs
+
+returns-2 : tie.Need-returns-2
+unfolding disconnectOf
+returns-2 c = c .refuse2 .ensures ∙ sym (no _ _ _ (c .before .before .before .before .before .if1 .left) ∙ yes _ _ _ (le-leb _ _ (c .before .if2 .taken)))
+
+latest-requires : tie.Need-latest-requires
+latest-requires c κs = search needs
+
+enum-told : tie.Need-enum-told
+enum-told c = search needs
+
+enum-told-2 : tie.Need-enum-told-2
+enum-told-2 c = search needs
+
+refuse-requires-3 : tie.Need-refuse-requires-3
+refuse-requires-3 c κs = search needs
+
+returns-3 : tie.Need-returns-3
+unfolding disconnectOf
+returns-3 c =
+    let l = c .before .before .before in
+    let d = l .before .before .before in
+    let none = ap isMissing (sym (l .latest .ensures) ∙ c .before .enum-told2 .given .1) in
+    c .refuse3 .ensures ∙ sym (no _ _ _ (d .before .before .before .before .if1 .left) ∙ no _ _ _ (lt-leb _ _ (d .if2 .left)) ∙ yes _ _ _ none)
+
+-- a warning was found, so the days' bars decide
+abbrev start : tie.After-enum-told → tie.Start
+start c = c .before .before .before .before .before .before .before .before .before .before .before .before .before .before
+
+warned : (c : tie.After-enum-told) → let s = start c .args in disconnectOf (s .t1) (s .e) ≡ cond (barredTest (s .t1) (s .e)) (refused (s .t1) 14) (servedOf (s .t1) (s .e) false)
+unfolding disconnectOf
+warned c =
+    let l = c .before .before in
+    let d = l .before .before .before in
+    no _ _ _ (d .before .before .before .before .if1 .left) ∙ no _ _ _ (lt-leb _ _ (d .if2 .left)) ∙ no _ _ _ (ap isMissing (sym (l .latest .ensures) ∙ c .enum-told .given .1))
+
+weekday-of-requires : tie.Need-weekday-of-requires
+weekday-of-requires c κs = search needs
+
+weekend : (c : tie.Then3) → let s = start (c .before .before) .args in barredTest (s .t1) (s .e) ≡ true
+weekend c = rw (← c .before .weekday-of .ensures, le-leb _ _ (c .if3 .taken))
+
+on-weekday : (c : tie.Else3) → let s = start (c .before .before) .args in barredTest (s .t1) (s .e) ≡ barringOn (s .t1 .marks) (s .e .day)
+on-weekday c = rw (← c .before .weekday-of .ensures, lt-leb _ _ (c .if3 .left))
+
+refuse-requires-4 : tie.Need-refuse-requires-4
+refuse-requires-4 c κs = search needs
+
+returns-4 : tie.Need-returns-4
+returns-4 c = c .refuse4 .ensures ∙ sym (warned (c .before .before .before) ∙ yes _ _ _ (weekend (c .before)))
+
+barring-requires : tie.Need-barring-requires
+barring-requires c κs = search needs
+
+refuse-requires-5 : tie.Need-refuse-requires-5
+refuse-requires-5 c κs = search needs
+
+returns-5 : tie.Need-returns-5
+returns-5 c = c .refuse5 .ensures ∙ sym (warned (c .before .before .before .before .before .before .before) ∙ yes _ _ _ (on-weekday (c .before .before .before .before .before) ∙ sym (c .before .before .barring .ensures) ∙ c .before .if4 .taken))
+
+served-requires : tie.Need-served-requires
+served-requires c κs = search needs
+
+returns-6 : tie.Need-returns-6
+returns-6 c = c .served .ensures ∙ sym (warned (c .before .before .before .before .before .before .before) ∙ no _ _ _ (on-weekday (c .before .before .before .before .before) ∙ sym (c .before .before .barring .ensures) ∙ c .before .if4 .left))
+
+pub disconnect-spec : {M : Type 1} → statement M
+disconnect-spec =
+    tie.close
+    (tie.spec
+    refuse-requires
+    returns
+    cast-if2
+    add-if2
+    refuse-requires-2
+    returns-2
+    latest-requires
+    enum-told
+    enum-told-2
+    refuse-requires-3
+    returns-3
+    weekday-of-requires
+    refuse-requires-4
+    returns-4
+    barring-requires
+    refuse-requires-5
+    returns-5
+    served-requires
+    returns-6)

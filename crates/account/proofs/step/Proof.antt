@@ -1,0 +1,132 @@
+-- `account::step` meets its contract: each arm by the step of its sort.
+-- Assumes nothing.
+use mathlib.Core.Path.{_≡_, sym, ap, _∙_}
+use mathlib.Core.Logic.{_⊎_, inl, inr}
+use Prim.Native.Nat.{_≤_}
+use native.Mathlib.Omega.{arith}
+use borrow.Author.Needs.{needs}
+use Rattle.account.specs.Head.{earlyCode}
+use Rattle.account.specs.Record.{refused}
+use Rattle.account.proofs.Arms as arms
+use Rattle.account.proofs.step.Statement.{statement}
+use Rattle.account.proofs.step.Tie as tie
+
+passed : (c : tie.Else1) → let s = c .before .before .before .before .args in earlyCode (s .a .terms) (s .a .totals) (s .e) ≡ 0
+passed c = sym (c .before .early .ensures) ∙ c .if1 .left
+
+-- in the last arm the sort is none of the others
+other : (c : tie.At-match-came) → let n = c .before .before .before .before .before .args .e .sort in (n ≡ 0) ⊎ (12 ≤ n)
+other c = elim (c .match .came) [ inl w ↦ inl (w .keys12) | inr w ↦ inr (let r = w .rest in omega arith) ]
+
+early-requires : tie.Need-early-requires
+early-requires c κs = search needs
+
+refuse-requires : tie.Need-refuse-requires
+refuse-requires c κs = search needs
+
+returns : tie.Need-returns
+returns c = c .refuse .ensures ∙ ap (refused _) (c .before .before .early .ensures) ∙ sym (arms.refused-early _ _ (λ z. c .before .if1 .taken (c .before .before .early .ensures ∙ z)))
+
+pay-requires : tie.Need-pay-requires
+pay-requires c κs = search needs
+
+reverse-requires : tie.Need-reverse-requires
+reverse-requires c κs = search needs
+
+credit-requires : tie.Need-credit-requires
+credit-requires c κs = search needs
+
+charge-requires : tie.Need-charge-requires
+charge-requires c κs = search needs
+
+estimate-requires : tie.Need-estimate-requires
+estimate-requires c κs = search needs
+
+read-requires : tie.Need-read-requires
+read-requires c κs = search needs
+
+warn-requires : tie.Need-warn-requires
+warn-requires c κs = search needs
+
+mark-requires : tie.Need-mark-requires
+mark-requires c κs = search needs
+
+plan-requires : tie.Need-plan-requires
+plan-requires c κs = search needs
+
+disconnect-requires : tie.Need-disconnect-requires
+disconnect-requires c κs = search needs
+
+connect-requires : tie.Need-connect-requires
+connect-requires c κs = search needs
+
+refuse-requires-2 : tie.Need-refuse-requires-2
+refuse-requires-2 c κs = search needs
+
+returns-2 : tie.Need-returns-2
+returns-2 c = c .pay .ensures ∙ sym (arms.pays _ _ (passed (c .before .before)) (c .before .match .keys1))
+
+returns-3 : tie.Need-returns-3
+returns-3 c = c .reverse .ensures ∙ sym (arms.reverses _ _ (passed (c .before .before)) (c .before .match .keys2))
+
+returns-4 : tie.Need-returns-4
+returns-4 c = c .credit .ensures ∙ sym (arms.credits _ _ (passed (c .before .before)) (c .before .match .keys3))
+
+returns-5 : tie.Need-returns-5
+returns-5 c = c .charge .ensures ∙ sym (arms.charges _ _ (passed (c .before .before)) (c .before .match .keys4))
+
+returns-6 : tie.Need-returns-6
+returns-6 c = c .estimate .ensures ∙ sym (arms.estimates _ _ (passed (c .before .before)) (c .before .match .keys5))
+
+returns-7 : tie.Need-returns-7
+returns-7 c = c .read .ensures ∙ sym (arms.reads _ _ (passed (c .before .before)) (c .before .match .keys6))
+
+returns-8 : tie.Need-returns-8
+returns-8 c = c .warn .ensures ∙ sym (arms.warns _ _ (passed (c .before .before)) (c .before .match .keys7))
+
+returns-9 : tie.Need-returns-9
+returns-9 c = c .mark .ensures ∙ sym (arms.marks _ _ (passed (c .before .before)) (c .before .match .keys8))
+
+returns-10 : tie.Need-returns-10
+returns-10 c = c .plan .ensures ∙ sym (arms.plans _ _ (passed (c .before .before)) (c .before .match .keys9))
+
+returns-11 : tie.Need-returns-11
+returns-11 c = c .disconnect .ensures ∙ sym (arms.disconnects _ _ (passed (c .before .before)) (c .before .match .keys10))
+
+returns-12 : tie.Need-returns-12
+returns-12 c = c .connect .ensures ∙ sym (arms.connects _ _ (passed (c .before .before)) (c .before .match .keys11))
+
+returns-13 : tie.Need-returns-13
+returns-13 c = absurd (arms.no-other _ _ (passed (c .before .before)) (other (c .before)))
+
+pub step-spec : {M : Type 1} → statement M
+step-spec =
+    tie.close
+    (tie.spec
+    early-requires
+    refuse-requires
+    returns
+    pay-requires
+    reverse-requires
+    credit-requires
+    charge-requires
+    estimate-requires
+    read-requires
+    warn-requires
+    mark-requires
+    plan-requires
+    disconnect-requires
+    connect-requires
+    refuse-requires-2
+    returns-2
+    returns-3
+    returns-4
+    returns-5
+    returns-6
+    returns-7
+    returns-8
+    returns-9
+    returns-10
+    returns-11
+    returns-12
+    returns-13)

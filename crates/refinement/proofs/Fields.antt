@@ -1,0 +1,110 @@
+-- What one more entry changes of what is read off L, and what it leaves.
+-- Assumes nothing.
+use Prim.Native.Nat.{ℕ, zero, suc, _+_, _*_, _-_, _≤_, _<_}
+use native.Mathlib.Omega.{arith}
+use native.Mathlib.Numerals.{add-one}
+use mathlib.Core.Path.{_≡_, refl, sym, ap, _∙_}
+use mathlib.Core.Bool.{Bool, true, false, cond, not, _&&_, _||_}
+use mathlib.Core.List.{List, [], _∷_}
+use lib.ListN.{length, getD, set}
+use lib.Seq.{getD-set-same, getD-set-other}
+use lib.Dec.{ltb, leb, eqb}
+use borrow.Author.Tests.{eq-eqb, ne-eqb, eqb-true, eqb-false}
+use Rattle.tariff.specs.Tariff.{costOf}
+use Rattle.terms.specs.declared.Terms.{Terms}
+use Rattle.ledger.specs.declared.Event.{Event}
+use Rattle.ledger.specs.Event.{isPay, isReverse, isCharge, isEstimate, isRead, isWarn, isMark}
+use Rattle.ledger.specs.Entries.{Entry, Entries, any, count, sum, find, noEntry, payments, payment, hasNumber, reversed, UsageDay, blank, estimated, metered, usageDay, readOn, estimateOn, whOn, priceOn, covered}
+use Rattle.ledger.specs.Months.{chargesIn, monthOf}
+use Rattle.ledger.proofs.Cases.{decide, both}
+use Rattle.account.specs.Record.{blankDay, noPayment, costHeld}
+use Rattle.refinement.specs.Agree.{usageOf, paymentOf, marksOf, warnedOn}
+
+module _ (e : Event) (p : ℕ) (l : Entries) where
+  abbrev pub more : Entries
+  more = record { event = e; part = p } ∷ l
+
+  pub payments-same : isPay e ≡ false → payments more ≡ payments l
+  unfolding payments count
+  payments-same f = simp f (omega arith)
+
+  pub payments-one : isPay e ≡ true → payments more ≡ payments l + 1
+  unfolding payments count
+  payments-one f = simp f (omega arith)
+
+  pub payment-same : (n : ℕ) → isPay e ≡ false → payment n more ≡ payment n l
+  unfolding payment find
+  payment-same n f = simp f
+
+  pub payment-old : (n : ℕ) → (payments l ≡ n → ⊥) → payment n more ≡ payment n l
+  unfolding payment find
+  payment-old n h = decide (isPay e) (λ t. simp (t, ne-eqb (payments l) n h)) (λ f. simp f)
+
+  pub payment-new : isPay e ≡ true → payment (payments l) more ≡ record { event = e; part = p }
+  unfolding payment find
+  payment-new t = simp (t, eq-eqb (payments l) (payments l) refl)
+
+  pub amount-limit : (n k : ℕ) → (isPay e ≡ true → e .amount ≤ k) → payment n l .event .amount ≤ k → payment n more .event .amount ≤ k
+  unfolding payment find
+  amount-limit n k h g = decide (hasNumber n (record { event = e; part = p }) l)
+      (λ t. simp t (h (both (isPay e) (eqb (payments l) n) t .0)))
+      (λ f. simp f g)
+
+  pub reversed-same : (n : ℕ) → (isReverse e && eqb (e .number) n) ≡ false → reversed n more ≡ reversed n l
+  unfolding reversed any
+  reversed-same n f = simp f
+
+  pub reversed-new : isReverse e ≡ true → reversed (e .number) more ≡ true
+  unfolding reversed any
+  reversed-new t = simp (t, eq-eqb (e .number) (e .number) refl)
+
+  wh-same : (q : ℕ → Event → Bool) (u : ℕ) → q u e ≡ false → whOn q u more ≡ whOn q u l
+  unfolding find
+  wh-same q u f = ap (λ (b : Bool). cond b (record { event = e; part = p }) (find (λ (y : Entry) (before : Entries). q u (y .event)) l) .event .wh) f
+
+  wh-new : (q : ℕ → Event → Bool) (u : ℕ) → q u e ≡ true → whOn q u more ≡ e .wh
+  unfolding find
+  wh-new q u t = ap (λ (b : Bool). cond b (record { event = e; part = p }) (find (λ (y : Entry) (before : Entries). q u (y .event)) l) .event .wh) t
+
+  pub usage-same : (t : Terms) (u : ℕ) → estimateOn u e ≡ false → readOn u e ≡ false → usageDay t more u ≡ usageDay t l u
+  unfolding usageDay any priceOn
+  usage-same t u f g = simp (f, g, wh-same estimateOn u f, wh-same readOn u g)
+
+  pub usage-estimated : (t : Terms) → isEstimate e ≡ true → isRead e ≡ false → any (readOn (e .usage)) l ≡ false
+      → usageDay t more (e .usage) ≡ estimated (e .wh) (costOf (e .wh) (t .price))
+  unfolding usageDay any priceOn
+  usage-estimated t i r f =
+      let s : eqb (e .usage) (e .usage) ≡ true = eq-eqb (e .usage) (e .usage) refl in
+      simp (wh-new estimateOn (e .usage) (simp (i, s)), i, r, f, s)
+
+  pub usage-metered : (t : Terms) → isRead e ≡ true → usageDay t more (e .usage) ≡ metered (e .wh) (costOf (e .wh) (t .price))
+  unfolding usageDay any priceOn
+  usage-metered t r =
+      let s : eqb (e .usage) (e .usage) ≡ true = eq-eqb (e .usage) (e .usage) refl in
+      simp (wh-new readOn (e .usage) (simp (r, s)), r, s)
+
+  pub usage-read-before : (t : Terms) → isRead e ≡ false → any (readOn (e .usage)) l ≡ true
+      → usageDay t more (e .usage) ≡ metered (whOn readOn (e .usage) l) (costOf (whOn readOn (e .usage) l) (t .price))
+  unfolding usageDay any priceOn
+  usage-read-before t r m = simp (wh-same readOn (e .usage) (rw r), r, m)
+
+  pub covered-same : (k d : ℕ) → isMark e ≡ false → covered k d more ≡ covered k d l
+  unfolding covered any
+  covered-same k d f = simp f
+
+  pub covered-more : (k d : ℕ) → isMark e ≡ true → covered k d more ≡ ((eqb (e .kind) k && (leb (e .from) d && leb d (e .to))) || covered k d l)
+  unfolding covered any
+  covered-more k d t = simp t
+
+  pub warned-same : (d : ℕ) → (isWarn e && eqb (e .day) d) ≡ false → warnedOn d more ≡ warnedOn d l
+  unfolding warnedOn any
+  warned-same d f = simp f
+
+  pub warned-new : isWarn e ≡ true → warnedOn (e .day) more ≡ true
+  unfolding warnedOn any
+  warned-new t = simp (t, eq-eqb (e .day) (e .day) refl)
+
+  pub charges-more : (t : Terms) (m k : ℕ) → chargesIn t m k more
+      ≡ chargesIn t m k l + cond (isCharge e && (eqb (e .kind) k && eqb (monthOf t (e .day)) m)) (e .amount) 0
+  unfolding chargesIn sum
+  charges-more t m k = refl

@@ -1,0 +1,134 @@
+-- The ledger's refusals sort by sort, for an event that passes codes 2, 3 and 4; and its step by the code.
+-- Assumes nothing.
+use Prim.Native.Nat.{ℕ, _≤_, _<_}
+use mathlib.Core.Path.{_≡_, refl, sym, ap, _∙_}
+use mathlib.Core.Bool.{Bool, true, false, cond, not, _&&_, _||_, or-false}
+use mathlib.Core.List.{List, [], _∷_}
+use lib.ListN.{length}
+use lib.Dec.{ltb, leb, eqb}
+use lib.IntN.{ℤ, pos, _+ℤ_, _-ℤ_}
+use lib.Signed.{ltZ, leZ}
+use Rattle.terms.specs.declared.Terms.{Terms}
+use Rattle.ledger.specs.declared.Event.{Event}
+use Rattle.ledger.specs.Event.{inLimits}
+use Rattle.ledger.specs.Entries.{lastDay, payments, reversed, warned, usageDay, isBlank, isMetered, barred}
+use Rattle.ledger.specs.Rules.{Ledger, planAllowed, refusals, lowest}
+use Rattle.ledger.specs.Ledger.{Move, Outcome, payMove, reverseMove, balanceMove, serviceMove, estimateMove, readMove, planMove, moveOf, moved, answer, refusal, ledgerStep}
+
+-- the event passes codes 2, 3 and 4
+pub record Passes (l : Ledger) (e : Event) : Type 0 where
+  pub days : (ltb (e .day) (lastDay (l .list)) || ltb 399 (e .day)) ≡ false
+  pub limits : inLimits e ≡ true
+  pub room : leb 4096 (length (l .list)) ≡ false
+
+module _ (t : Terms) (l : Ledger) (e : Event) where
+  pub code-2 : (ltb (e .day) (lastDay (l .list)) || ltb 399 (e .day)) ≡ true → refusal t l e ≡ 2
+  unfolding refusal refusals lowest
+  code-2 h = simp h
+
+  pub code-3 : (ltb (e .day) (lastDay (l .list)) || ltb 399 (e .day)) ≡ false → inLimits e ≡ false → refusal t l e ≡ 3
+  unfolding refusal refusals lowest
+  code-3 h k = simp (h, k)
+
+  pub code-4 : (ltb (e .day) (lastDay (l .list)) || ltb 399 (e .day)) ≡ false → inLimits e ≡ true → leb 4096 (length (l .list)) ≡ true → refusal t l e ≡ 4
+  unfolding refusal refusals lowest
+  code-4 h k f = simp (h, k, f)
+
+  module _ (s : Passes l e) where
+    pub pay-code : e .sort ≡ 1 → refusal t l e ≡ cond (leb 128 (payments (l .list))) 5 0
+    unfolding refusal refusals lowest
+    pay-code k = simp (s .days, s .limits, s .room, k)
+
+    pub reverse-code : e .sort ≡ 2 → refusal t l e ≡ cond (leb (payments (l .list)) (e .number) || reversed (e .number) (l .list)) 6 0
+    unfolding refusal refusals lowest
+    reverse-code k = simp (s .days, s .limits, s .room, k)
+
+    pub credit-code : e .sort ≡ 3 → refusal t l e ≡ 0
+    unfolding refusal refusals lowest
+    credit-code k = simp (s .days, s .limits, s .room, k)
+
+    pub charge-code : e .sort ≡ 4 → refusal t l e ≡ 0
+    unfolding refusal refusals lowest
+    charge-code k = simp (s .days, s .limits, s .room, k)
+
+    pub estimate-code : e .sort ≡ 5 → refusal t l e ≡ cond (leb (e .day) (e .usage)) 7 (cond (not (isBlank (usageDay t (l .list) (e .usage)))) 8 0)
+    unfolding refusal refusals lowest
+    estimate-code k = simp (s .days, s .limits, s .room, k, or-false)
+
+    pub read-code : e .sort ≡ 6 → refusal t l e ≡ cond (leb (e .day) (e .usage)) 7 (cond (isMetered (usageDay t (l .list) (e .usage))) 8 0)
+    unfolding refusal refusals lowest
+    read-code k = simp (s .days, s .limits, s .room, k)
+
+    pub warn-code : e .sort ≡ 7 → refusal t l e ≡ 0
+    unfolding refusal refusals lowest
+    warn-code k = simp (s .days, s .limits, s .room, k)
+
+    pub mark-code : e .sort ≡ 8 → refusal t l e ≡ 0
+    unfolding refusal refusals lowest
+    mark-code k = simp (s .days, s .limits, s .room, k)
+
+    pub plan-code : e .sort ≡ 9 → refusal t l e ≡ cond (not (planAllowed t l e)) 9 (cond (ltb 0 (l .plan)) 10 0)
+    unfolding refusal refusals lowest
+    plan-code k = simp (s .days, s .limits, s .room, k)
+
+    pub disconnect-code : e .sort ≡ 10
+        → refusal t l e ≡ cond (not (l .on)) 11 (cond (leZ (pos (t .cutoff)) (l .balance)) 12 (cond (not (warned (e .day) (l .list))) 13 (cond (barred t (e .day) (l .list)) 14 0)))
+    unfolding refusal refusals lowest
+    disconnect-code k = simp (s .days, s .limits, s .room, k, or-false)
+
+    pub connect-code : e .sort ≡ 11 → refusal t l e ≡ cond (l .on) 11 (cond (ltZ (l .balance) (pos (t .connect))) 12 0)
+    unfolding refusal refusals lowest
+    connect-code k = simp (s .days, s .limits, s .room, k)
+
+  -- the step by the code
+  pub refuses : (c : ℕ) → refusal t l e ≡ c → eqb c 0 ≡ false → ledgerStep t l e ≡ record { ledger = l; answer = answer c 0 }
+  unfolding ledgerStep
+  refuses c h f = simp (h, f)
+
+  pub takes : (m : Move) → refusal t l e ≡ 0 → moveOf t l e ≡ m → ledgerStep t l e ≡ record { ledger = moved l e m; answer = answer 0 (m .value) }
+  unfolding ledgerStep
+  takes m h k = simp (h, k)
+
+  pub pay-move : e .sort ≡ 1 → moveOf t l e ≡ payMove t l e
+  unfolding moveOf
+  pay-move k = rw k
+
+  pub reverse-move : e .sort ≡ 2 → moveOf t l e ≡ reverseMove l e
+  unfolding moveOf
+  reverse-move k = rw k
+
+  pub credit-move : e .sort ≡ 3 → moveOf t l e ≡ balanceMove l 0 (l .balance +ℤ pos (e .amount))
+  unfolding moveOf
+  credit-move k = rw k
+
+  pub charge-move : e .sort ≡ 4 → moveOf t l e ≡ balanceMove l 0 (l .balance -ℤ pos (e .amount))
+  unfolding moveOf
+  charge-move k = rw k
+
+  pub estimate-move : e .sort ≡ 5 → moveOf t l e ≡ estimateMove t l e
+  unfolding moveOf
+  estimate-move k = rw k
+
+  pub read-move : e .sort ≡ 6 → moveOf t l e ≡ readMove t l e
+  unfolding moveOf
+  read-move k = rw k
+
+  pub warn-move : e .sort ≡ 7 → moveOf t l e ≡ serviceMove l (l .on)
+  unfolding moveOf
+  warn-move k = rw k
+
+  pub mark-move : e .sort ≡ 8 → moveOf t l e ≡ serviceMove l (l .on)
+  unfolding moveOf
+  mark-move k = rw k
+
+  pub plan-move : e .sort ≡ 9 → moveOf t l e ≡ planMove t l
+  unfolding moveOf
+  plan-move k = rw k
+
+  pub disconnect-move : e .sort ≡ 10 → moveOf t l e ≡ serviceMove l false
+  unfolding moveOf
+  disconnect-move k = rw k
+
+  pub connect-move : e .sort ≡ 11 → moveOf t l e ≡ serviceMove l true
+  unfolding moveOf
+  connect-move k = rw k

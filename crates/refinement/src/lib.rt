@@ -1,0 +1,2 @@
+// The record agrees with the ledger, step by step.
+fn nothing() {}
