@@ -1,16 +1,11 @@
 -- The step of an event that passes the checks of every event, by its sort. Assumes nothing.
-use mathlib.Core.Path.{_≡_, sym, _∙_}
-use mathlib.Core.Bool.{true, false, false≢true}
-use mathlib.Core.Logic.{_⊎_}
-use Prim.Native.Nat.{_≤_}
+use mathlib.Core.Path.{_≡_, _∙_}
 use borrow.Author.Tests.{eq-eqb, ne-eqb}
 use Rattle.ledger.specs.declared.Event.{Event}
-use Rattle.limits.proofs.Sorts.{no-sort}
 use Rattle.account.specs.Record.{refused}
 use Rattle.account.specs.Head.{earlyCode, bySort, stepOf, payOf, reverseOf, creditOf, chargeOf, estimateOf, readOf, warnOf, markOf, planOf, disconnectOf, connectOf}
 use Rattle.account.specs.declared.Account.{Account}
 use Rattle.account.proofs.Ways.{yes, no}
-use Rattle.account.proofs.Early.{early}
 
 module _ (a : Account) (e : Event) where
   pub refused-early : (earlyCode (a .terms) (a .totals) e ≡ 0 → ⊥) → stepOf a e ≡ refused a (earlyCode (a .terms) (a .totals) e)
@@ -65,7 +60,3 @@ module _ (a : Account) (e : Event) where
     pub connects : e .sort ≡ 11 → stepOf a e ≡ connectOf a e
     unfolding bySort
     connects s = goes-on ∙ rw s
-
-    -- an event within its limits has one of these sorts
-    pub no-other : (e .sort ≡ 0) ⊎ (12 ≤ e .sort) → ⊥
-    no-other s = false≢true (sym (no-sort e s) ∙ early (a .terms) (a .totals) e h .limits)

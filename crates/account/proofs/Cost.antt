@@ -1,5 +1,5 @@
 -- A usage day's cost fits 32 bits. Assumes nothing.
-use Prim.Native.Nat.{ℕ, _*_, _≤_}
+use Prim.Native.Nat.{ℕ, _≤_}
 use native.Mathlib.Omega.{arith}
 use native.Mathlib.Nat.{mul-le-mul}
 use Rattle.tariff.specs.Tariff.{costOf}

@@ -1,5 +1,5 @@
 -- What holds once the checks of every event have passed. Assumes nothing.
-use mathlib.Core.Path.{_≡_, refl, sym}
+use mathlib.Core.Path.{_≡_, refl, sym, _∙_}
 use mathlib.Core.Bool.{Bool, true, false, cond, _||_, _&&_, false≢true}
 use mathlib.Core.Logic.{_⊎_}
 use Prim.Native.Nat.{ℕ, suc, _≤_, _<_}
@@ -93,6 +93,10 @@ pub month-on : (t : Terms) (s : Totals) (e : Event) → Early t s e → monthOn 
 month-on t s e k = let h = is-day t s e k in rw h (month-limit (t .opened) (e .day) h)
 
 -- ---- the event's fields, by its sort
+
+-- the sort is one of 1 to 11
+pub no-other : (e : Event) → inLimits e ≡ true → (e .sort ≡ 0) ⊎ (12 ≤ e .sort) → ⊥
+no-other e h s = false≢true (sym (sorts.no-sort e s) ∙ h)
 
 pub record Between (low high n : ℕ) : Type 0 where
   pub least : low ≤ n

@@ -1,6 +1,5 @@
 -- The head's step: what one event does to the record.
 use Prim.Native.Nat.{ℕ, _+_, _*_, _-_, _/_, min}
-use mathlib.Core.Path.{_≡_}
 use mathlib.Core.Bool.{Bool, true, false, cond, not, _&&_, _||_}
 use mathlib.Core.List.{List}
 use lib.ListN.{getD, set}
@@ -11,7 +10,7 @@ use Rattle.terms.specs.Terms.{termsCode}
 use Rattle.terms.specs.declared.Terms.{Terms}
 use Rattle.ledger.specs.Event.{inLimits}
 use Rattle.ledger.specs.declared.Event.{Event}
-use Rattle.account.specs.Record.{blankDay, noPayment, fresh, refused, tallied, costHeld}
+use Rattle.account.specs.Record.{blankDay, noPayment, fresh, refused, tallied}
 use Rattle.marks.specs.Marks.{marked, barringOn, latestWarning, weatherNear}
 use Rattle.marks.specs.declared.Found.{Found}
 use Rattle.marks.specs.declared.Found.the-variants.{At, Missing}

@@ -1,6 +1,6 @@
 -- The account record: a fresh one, and one that a refusal leaves.
 use Prim.Native.Nat.{ℕ, _+_}
-use mathlib.Core.Bool.{Bool, false}
+use mathlib.Core.Bool.{false}
 use lib.ListN.{replicate}
 use Rattle.terms.specs.declared.Terms.{Terms}
 use Rattle.account.specs.declared.Usage.{Usage}

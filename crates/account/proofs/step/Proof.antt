@@ -2,11 +2,12 @@
 -- Assumes nothing.
 use mathlib.Core.Path.{_≡_, sym, ap, _∙_}
 use mathlib.Core.Logic.{_⊎_, inl, inr}
-use Prim.Native.Nat.{_≤_}
+use Prim.Native.Nat.{ℕ, _+_, _≤_, zero-le}
 use native.Mathlib.Omega.{arith}
 use borrow.Author.Needs.{needs}
 use Rattle.account.specs.Head.{earlyCode}
 use Rattle.account.specs.Record.{refused}
+use Rattle.account.proofs.Early.{early, no-other}
 use Rattle.account.proofs.Arms as arms
 use Rattle.account.proofs.step.Statement.{statement}
 use Rattle.account.proofs.step.Tie as tie
@@ -14,9 +15,17 @@ use Rattle.account.proofs.step.Tie as tie
 passed : (c : tie.Else1) → let s = c .before .before .before .before .args in earlyCode (s .a .terms) (s .a .totals) (s .e) ≡ 0
 passed c = sym (c .before .early .ensures) ∙ c .if1 .left
 
+six : (n low : ℕ) → low ≤ n → (n ≡ low → ⊥) → (n ≡ low + 1 → ⊥) → (n ≡ low + 2 → ⊥) → (n ≡ low + 3 → ⊥) → (n ≡ low + 4 → ⊥) → (n ≡ low + 5 → ⊥) → low + 6 ≤ n
+six n low h a b c d e f = omega arith
+
 -- in the last arm the sort is none of the others
 other : (c : tie.At-match-came) → let n = c .before .before .before .before .before .args .e .sort in (n ≡ 0) ⊎ (12 ≤ n)
-other c = elim (c .match .came) [ inl w ↦ inl (w .keys12) | inr w ↦ inr (let r = w .rest in omega arith) ]
+other c = elim (c .match .came) [
+  | inl w ↦ inl (w .keys12)
+  | inr w ↦ let r = w .rest .0 in
+    let low = r .0 .0 .0 .0 .0 .0 in
+    inr (six _ 6 (six _ 0 zero-le (w .rest .1) (low .0 .0 .0 .0 .1) (low .0 .0 .0 .1) (low .0 .0 .1) (low .0 .1) (low .1)) (r .0 .0 .0 .0 .0 .1) (r .0 .0 .0 .0 .1) (r .0 .0 .0 .1) (r .0 .0 .1) (r .0 .1) (r .1))
+]
 
 early-requires : tie.Need-early-requires
 early-requires c κs = search needs
@@ -97,7 +106,7 @@ returns-12 : tie.Need-returns-12
 returns-12 c = c .connect .ensures ∙ sym (arms.connects _ _ (passed (c .before .before)) (c .before .match .keys11))
 
 returns-13 : tie.Need-returns-13
-returns-13 c = absurd (arms.no-other _ _ (passed (c .before .before)) (other (c .before)))
+returns-13 c = absurd (no-other _ (early _ _ _ (passed (c .before .before)) .limits) (other (c .before)))
 
 pub step-spec : {M : Type 1} → statement M
 step-spec =

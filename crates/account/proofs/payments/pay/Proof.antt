@@ -12,71 +12,55 @@ use Rattle.account.proofs.payments.pay.Tie as tie
 known : (c : tie.Start) → Early (c .args .a .terms) (c .args .a .totals) (c .args .e)
 known c = early _ _ _ (c .pre .0)
 
--- src/payments.rt:41:9
 refuse-requires : tie.Need-refuse-requires
 refuse-requires c κs = search needs
 
--- src/payments.rt:41:9
 returns : tie.Need-returns
 unfolding payOf
 returns c = simp (le-leb _ _ (c .before .if1 .taken)) (c .refuse .ensures)
 
--- src/payments.rt:45:9
 plan-part-requires : tie.Need-plan-part-requires
 plan-part-requires c κs = known (c .before .before) .share
 
--- src/payments.rt:46:13
 cast-i : tie.Need-cast-i
 cast-i c = search needs
 
--- src/payments.rt:48:5
 mul-t13 : tie.Need-mul-t13
 mul-t13 c = search needs
 
--- src/payments.rt:48:5
 element-set-from-b : tie.Need-element-set-from-b
 element-set-from-b c = search needs
 
--- src/payments.rt:54:9
 tally-requires : tie.Need-tally-requires
 tally-requires c κs = known (c .before .before .before) .room
 
--- src/payments.rt:55:32
 cast-less : tie.Need-cast-less
 cast-less c = search needs
 
--- src/payments.rt:55:47
 cast-less-2 : tie.Need-cast-less-2
 cast-less-2 c = search needs
 
--- src/payments.rt:55:27
 less-requires : tie.Need-less-requires
 less-requires c κs = search needs
 
--- src/payments.rt:55:16
 add-n : tie.Need-add-n
 add-n c =
     let d = c .before .before .before .before .before .before in
     let k = known d in
     omega (arith, amount-limits (d .args .e) (inl (d .pre .1)) (k .limits))
 
--- src/payments.rt:56:27
 cast-less-3 : tie.Need-cast-less-3
 cast-less-3 c = search needs
 
--- src/payments.rt:56:5
 less-requires-2 : tie.Need-less-requires-2
 less-requires-2 c κs = search needs
 
--- src/payments.rt:57:15
 add-n-2 : tie.Need-add-n-2
 add-n-2 c = search needs
 
--- src/payments.rt:62:16
 cast-t18 : tie.Need-cast-t18
 cast-t18 c = search needs
 
--- src/payments.rt:34:1
 returns-2 : tie.Need-returns-2
 unfolding payOf
 returns-2 c =

@@ -4,7 +4,6 @@ use mathlib.Core.Path.{_≡_, sym, _∙_}
 use native.Mathlib.Omega.{arith}
 use borrow.Author.Needs.{needs}
 use borrow.Author.Tests.{eq-eqb, ne-eqb, le-leb, lt-leb, lt-ltb, le-ltb, not-true, not-false}
-use Rattle.marks.specs.Marks.{weatherNear}
 use Rattle.account.specs.Head.{planTest, planOf}
 use Rattle.account.proofs.Ways.{yes, no}
 use Rattle.account.proofs.Early.{Early, early}

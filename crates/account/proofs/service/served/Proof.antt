@@ -1,6 +1,5 @@
 -- `account::service::served` meets its contract.
 -- Assumes nothing.
-use borrow.Author.Needs.{needs}
 use Rattle.account.specs.Head.{servedOf}
 use Rattle.account.proofs.Early.{early}
 use Rattle.account.proofs.service.served.Statement.{statement}
