@@ -123,3 +123,8 @@ ledgerStep t l e =
     cond (accepts t l e)
     (record { ledger = moved l e (moveOf t l e); answer = answer 0 (moveOf t l e .value) })
     (record { ledger = l; answer = answer (refusal t l e) 0 })
+
+-- "fed the terms that made the account, then every event in the order of posting"
+unfoldable pub ledgerAfter : Terms → Ledger → List Event → Ledger
+ledgerAfter t l [] = l
+ledgerAfter t l (e ∷ es) = ledgerAfter t (ledgerStep t l e .ledger) es

@@ -5,3 +5,4 @@ pub mod Agreed
 pub mod Payments
 pub mod Usage
 pub mod Service
+pub mod Refines

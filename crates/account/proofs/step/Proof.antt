@@ -15,6 +15,7 @@ use Rattle.account.proofs.step.Tie as tie
 passed : (c : tie.Else1) → let s = c .before .before .before .before .args in earlyCode (s .a .terms) (s .a .totals) (s .e) ≡ 0
 passed c = sym (c .before .early .ensures) ∙ c .if1 .left
 
+-- a number that is none of the next six
 six : (n low : ℕ) → low ≤ n → (n ≡ low → ⊥) → (n ≡ low + 1 → ⊥) → (n ≡ low + 2 → ⊥) → (n ≡ low + 3 → ⊥) → (n ≡ low + 4 → ⊥) → (n ≡ low + 5 → ⊥) → low + 6 ≤ n
 six n low h a b c d e f = omega arith
 

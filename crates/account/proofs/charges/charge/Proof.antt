@@ -41,7 +41,7 @@ mul-sum : tie.Need-mul-sum
 mul-sum c = search needs
 
 element-copy-out-sum : tie.Need-element-copy-out-sum
-element-copy-out-sum c = place (c .before)
+element-copy-out-sum c = omega (arith, place (c .before))
 
 refuse-requires : tie.Need-refuse-requires
 refuse-requires c κs = search needs
@@ -60,7 +60,7 @@ mul-b : tie.Need-mul-b
 mul-b c = search needs
 
 element-write-b : tie.Need-element-write-b
-element-write-b c = place (c .before .before .before .before)
+element-write-b c = omega (arith, place (c .before .before .before .before))
 
 tally-requires : tie.Need-tally-requires
 tally-requires c κs = known (c .before .before .before .before .before .before .before .before) .room

@@ -1,0 +1,113 @@
+-- Demand 3: by induction over the calls, each call's account and ledger agreeing.
+-- Assumes nothing.
+use Prim.Native.Nat.{ℕ, zero, suc}
+use native.Mathlib.Omega.{arith}
+use mathlib.Core.Path.{_≡_, refl, sym, ap, ap₂, _∙_}
+use mathlib.Core.Bool.{Bool, true, false, cond}
+use mathlib.Core.List.{List, [], _∷_, _++_}
+use lib.ListN.{length, drop}
+use lib.Dec.{ltb, eqb}
+use lib.IntN.{ℤ, pos, negℤ, natAbs, _+ℤ_, _-ℤ_, +ℤ-idl, +ℤ-idr, +ℤ-invl, +ℤ-assoc}
+use borrow.Author.Tests.{eqb-true}
+use Rattle.terms.specs.Terms.{validTerms}
+use Rattle.terms.specs.declared.Terms.{Terms}
+use Rattle.ledger.specs.declared.Event.{Event}
+use Rattle.ledger.specs.declared.Answer.{Answer}
+use Rattle.ledger.specs.Rules.{Ledger}
+use Rattle.ledger.specs.Sums.{settled, standing}
+use Rattle.ledger.specs.Ledger.{opening, ledgerStep, ledgerAfter}
+use Rattle.ledger.proofs.Cases.{decide}
+use Rattle.ledger.proofs.Identity.{settled-is}
+use Rattle.ledger.proofs.Disconnect.{disconnect-granted}
+use Rattle.account.specs.Record.{fresh}
+use Rattle.account.specs.Head.{stepOf}
+use Rattle.account.specs.declared.Account.{Account}
+use Rattle.posting.specs.Posting.{accountAfter, codesOf, answerOf, rowOf, IsRow}
+use Rattle.refinement.proofs.Refines.{refines}
+use Rattle.readings.proofs.After.{Stands, stands-step, stands-fresh, stands-after, balance-is, settled-reads}
+use Rattle.demand.specs.Calls.{Call, single, row, Back, answered, written, Seen, Reads, Called, Runs, ledgerCodes, ledgerCalled, ledgerBack, shows, ledgerSeen}
+use Rattle.demand.specs.Demand3.{Demand3, after}
+
+-- the codes of a row
+codes-are : (t : Terms) (es : List Event) (a : Account) (l : Ledger) → Stands t a l → codesOf a es ≡ ledgerCodes t l es
+unfolding codesOf ledgerCodes
+codes-are t [] a l s = refl
+codes-are t (e ∷ es) a l s =
+    ap₂ (λ (c : ℕ) (r : List ℕ). c ∷ r) (refines t a l e (s .sane) (s .agree) .code) (codes-are t es (stepOf a e .account) (ledgerStep t l e .ledger) (stands-step t a l e s))
+
+-- what is read of an account that agrees
+seen-is : (t : Terms) (a : Account) (l : Ledger) (v : Seen) (r : Back) → Stands t a l → v .back ≡ r → Reads a v → v ≡ shows t l r
+seen-is t a l v r s b q =
+    let g = s .agree in
+    let balance : v .balance ≡ l .balance = q .balance ∙ balance-is t (a .totals) l (g .sums) (g .bounds) in
+    let plan : v .plan ≡ l .plan = q .plan ∙ g .sums .plan in
+    let on : v .on ≡ l .on = q .on ∙ g .sums .on in
+    let settled-read = q .settled ∙ settled-reads t (a .totals) l (g .sums) (g .bounds) (s .sane) in
+    let standing-read = q .standing ∙ g .sums .standing in
+    λ i. record { back = b i; balance = balance i; plan = plan i; on = on i; settled = settled-read i; standing = standing-read i }
+
+-- one call: what is seen of it is the ledger's, and the account that it leaves agrees with the ledger again
+record Alike (t : Terms) (v : Seen) (b : Account) (l : Ledger) (r : Back) : Type 0 where
+  seen : v ≡ shows t l r
+  stands : Stands t b l
+
+alike : (t : Terms) (v : Seen) (b : Account) (l : Ledger) (r : Back) → Stands t b l → v .back ≡ r → Reads b v → Alike t v b l r
+alike t v b l r s h q = record { seen = seen-is t b l v r s h q; stands = s }
+
+answer-is : (t : Terms) (a : Account) (l : Ledger) (e : Event) → Stands t a l → answerOf (stepOf a e) ≡ ledgerStep t l e .answer
+answer-is t a l e s =
+    let same = refines t a l e (s .sane) (s .agree) in
+    λ i. record { code = same .code i; value = same .value i }
+
+called-is : (t : Terms) (a : Account) (l : Ledger) (c : Call) (v : Seen) (b : Account) → Stands t a l → Called a c v b → Alike t v b (ledgerCalled t l c) (ledgerBack t l c)
+unfolding ledgerCalled ledgerBack rowOf
+called-is t a l (single e) v b s (r, p, h, q) =
+    alike t v b (ledgerStep t l e .ledger) (answered (ledgerStep t l e .answer)) (rw (p .account) (stands-step t a l e s)) (h ∙ ap answered (p .answer ∙ answer-is t a l e s)) q
+called-is t a l (row es buffer) v b s (r, bytes, p, h, q) = decide (ltb (length buffer) (length es))
+    (λ y. let account : b ≡ a = simp y at (p .account) in
+      let codes : bytes ≡ buffer = simp y at (p .codes) in
+      let own : r ≡ 16 = simp y at (p .answer) in
+      simp y (alike t v b l (written 16 buffer) (rw account s) (h ∙ ap₂ written own codes) q))
+    (λ f. let account : b ≡ accountAfter a es = simp f at (p .account) in
+      let codes : bytes ≡ codesOf a es ++ drop (length es) buffer = simp f at (p .codes) in
+      let own : r ≡ 0 = simp f at (p .answer) in
+      simp f (alike t v b (ledgerAfter t l es) (written 0 (ledgerCodes t l es ++ drop (length es) buffer))
+      (rw account (stands-after t es a l s))
+      (h ∙ ap₂ written own (codes ∙ ap (λ (k : List ℕ). k ++ drop (length es) buffer) (codes-are t es a l s)))
+      q))
+
+-- every list of calls, from any account and ledger that agree
+runs-are : (t : Terms) (cs : List Call) (vs : List Seen) (a : Account) (l : Ledger) → Stands t a l → Runs a cs vs → vs ≡ ledgerSeen t l cs
+unfolding ledgerSeen
+runs-are t [] [] a l s q = refl
+runs-are t [] (v ∷ vs) a l s q = absurd q
+runs-are t (c ∷ cs) [] a l s q = absurd q
+runs-are t (c ∷ cs) (v ∷ vs) a l s (b, p, q) =
+    let one = called-is t a l c v b s p in
+    ap₂ (λ (x : Seen) (xs : List Seen). x ∷ xs) (one .seen) (runs-are t cs vs b (ledgerCalled t l c) (one .stands) q)
+
+-- a sum that leaves a number as it is, is 0
+adds-nothing : (z : ℤ) (n : ℕ) → z +ℤ pos n ≡ z → n ≡ 0
+adds-nothing z n h =
+    ap natAbs
+    (sym (+ℤ-idl (pos n))
+    ∙ ap (λ (x : ℤ). x +ℤ pos n) (sym (+ℤ-invl z))
+    ∙ +ℤ-assoc (negℤ z) z (pos n)
+    ∙ ap (λ (x : ℤ). negℤ z +ℤ x) h
+    ∙ +ℤ-invl z)
+
+pub demand-3 : (t : Terms) → validTerms t ≡ true → Demand3 t
+demand-3 t v = record {
+  answers = λ cs vs q. runs-are t cs vs (fresh t) opening (stands-fresh t v) q;
+  identity = identity;
+  exactly = λ es.
+    (λ h. adds-nothing (after t es .balance -ℤ pos (after t es .plan)) (standing t (after t es .list)) (identity es ∙ sym h),
+    λ z. sym (+ℤ-idr (after t es .balance -ℤ pos (after t es .plan))) ∙ ap (λ (n : ℕ). after t es .balance -ℤ pos (after t es .plan) +ℤ pos n) (sym z) ∙ identity es);
+  disconnects = λ es e k d f. disconnect-granted t (after t es) e (eqb-true (e .sort) 10 k) d f;
+}
+  where
+    stands : (es : List Event) → Stands t (accountAfter (fresh t) es) (after t es)
+    stands es = stands-after t es (fresh t) opening (stands-fresh t v)
+
+    identity : (es : List Event) → after t es .balance -ℤ pos (after t es .plan) +ℤ pos (standing t (after t es .list)) ≡ settled t (after t es .list)
+    identity es = settled-is t (after t es) (stands es .sane)

@@ -1,0 +1,85 @@
+-- The account after a list of events agrees with the ledger fed the same list; so what is read off its totals is the ledger's.
+-- Assumes nothing.
+use mathlib.Core.Path.{_≡_, refl, sym, ap, _∙_}
+use mathlib.Core.Bool.{Bool, true, false, cond}
+use mathlib.Core.List.{List, [], _∷_}
+use Prim.Native.Nat.{ℕ, _+_, _*_, _≤_}
+use native.Mathlib.Omega.{arith}
+use lib.IntN.{ℤ, pos, _+ℤ_, _-ℤ_}
+use borrow.Author.Tests.{le-leb}
+use Rattle.terms.specs.Terms.{validTerms}
+use Rattle.terms.specs.declared.Terms.{Terms}
+use Rattle.ledger.specs.declared.Event.{Event}
+use Rattle.ledger.specs.Rules.{Ledger}
+use Rattle.ledger.specs.Sums as sums
+use Rattle.ledger.specs.Ledger.{opening, ledgerStep, ledgerAfter}
+use Rattle.ledger.proofs.Money.{diff, diff-add, diff-sub}
+use Rattle.ledger.proofs.Identity.{Sane, sane-valid, sane-step, settled-is}
+use Rattle.account.specs.Record.{fresh}
+use Rattle.account.specs.Head.{most, stepOf}
+use Rattle.account.specs.declared.Account.{Account}
+use Rattle.account.specs.declared.Totals.{Totals}
+use Rattle.posting.specs.Posting.{accountAfter}
+use Rattle.refinement.specs.Agree.{Agree, Sums, Bounds}
+use Rattle.refinement.proofs.Refines.{refines, agree-fresh}
+use Rattle.readings.specs.Readings.{balanceOf, settledOf, Made, IsLedgers}
+
+pub record Stands (t : Terms) (a : Account) (l : Ledger) : Type 0 where
+  pub agree : Agree t a l
+  pub sane : Sane t l
+
+pub stands-step : (t : Terms) (a : Account) (l : Ledger) (e : Event) → Stands t a l → Stands t (stepOf a e .account) (ledgerStep t l e .ledger)
+stands-step t a l e s = record { agree = refines t a l e (s .sane) (s .agree) .again; sane = sane-step t l e (s .sane) }
+
+pub stands-fresh : (t : Terms) → validTerms t ≡ true → Stands t (fresh t) opening
+stands-fresh t v = record { agree = agree-fresh t v; sane = sane-valid t v }
+
+pub stands-after : (t : Terms) (es : List Event) (a : Account) (l : Ledger) → Stands t a l → Stands t (accountAfter a es) (ledgerAfter t l es)
+unfolding accountAfter ledgerAfter
+stands-after t [] a l s = s
+stands-after t (e ∷ es) a l s = stands-after t es (stepOf a e .account) (ledgerStep t l e .ledger) (stands-step t a l e s)
+
+-- ---- the readings of totals that agree
+
+module _ (t : Terms) (s : Totals) (l : Ledger) (g : Sums t s l) (b : Bounds s) where
+  pub balance-is : balanceOf s ≡ l .balance
+  unfolding balanceOf
+  balance-is = simp (le-leb (s .credit) 1152921504606846976 (omega (arith, b .credit, b .full)), le-leb (s .debit) 1152921504606846976 (omega (arith, b .debit, b .full))) (sym (g .balance))
+
+  pub settled-reads : Sane t l → settledOf s ≡ sums.settled t (l .list)
+  unfolding settledOf
+  settled-reads q =
+      simp (le-leb (s .credit) 1152921504606846976 (omega (arith, b .credit, b .full)), le-leb (s .debit) 1152921504606846976 (omega (arith, b .debit, b .full)), le-leb (s .plan) 1152921504606846976 (omega (arith, b .plan, b .full)), le-leb (s .standing) 1152921504606846976 (omega (arith, b .standing, b .full)))
+      (sym (sym (settled-is t l q)
+      ∙ ap (λ (z : ℤ). z -ℤ pos (l .plan) +ℤ pos (sums.standing t (l .list))) (g .balance)
+      ∙ ap (λ (n : ℕ). diff (s .credit) (s .debit) -ℤ pos n +ℤ pos (sums.standing t (l .list))) (sym (g .plan))
+      ∙ ap (λ (n : ℕ). diff (s .credit) (s .debit) -ℤ pos (s .plan) +ℤ pos n) (sym (g .standing))
+      ∙ ap (λ (z : ℤ). z +ℤ pos (s .standing)) (diff-sub (s .credit) (s .debit) (s .plan))
+      ∙ diff-add (s .credit) (s .debit + s .plan) (s .standing)))
+
+-- ---- so for every list that made them
+
+module _ (s : Totals) (t : Terms) (es : List Event) (m : Made s t es) where
+  after : Stands t (accountAfter (fresh t) es) (ledgerAfter t opening es)
+  after = stands-after t es (fresh t) opening (stands-fresh t (m .valid))
+
+  sums-after : Sums t s (ledgerAfter t opening es)
+  sums-after = rw (m .totals) (after .agree .sums)
+
+  bounds-after : Bounds s
+  bounds-after = rw (m .totals) (after .agree .bounds)
+
+  pub balance-made : balanceOf s ≡ ledgerAfter t opening es .balance
+  balance-made = balance-is t s (ledgerAfter t opening es) sums-after bounds-after
+
+  pub plan-made : s .plan ≡ ledgerAfter t opening es .plan
+  plan-made = sums-after .plan
+
+  pub on-made : s .on ≡ ledgerAfter t opening es .on
+  on-made = sums-after .on
+
+  pub settled-made : settledOf s ≡ sums.settled t (ledgerAfter t opening es .list)
+  settled-made = settled-reads t s (ledgerAfter t opening es) sums-after bounds-after (after .sane)
+
+  pub standing-made : s .standing ≡ sums.standing t (ledgerAfter t opening es .list)
+  standing-made = sums-after .standing

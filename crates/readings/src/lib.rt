@@ -1,0 +1,77 @@
+// The reading calls: balance, unpaid plan, service, settled amount, cost of the standing estimates.
+// It uses the account's totals. Each promise says the answer twice: off the totals, and in the ledger's terms.
+use account::Totals;
+ghost use mathlib.Core.Path.{_≡_};
+ghost use Prim.Native.Nat.{_≤_};
+ghost use lib.IntN.{pos, _-ℤ_};
+ghost use Rattle.terms.specs.declared.Terms.{Terms};
+ghost use Rattle.ledger.specs.Rules.{Ledger};
+ghost use Rattle.ledger.specs.Sums as sums;
+ghost use Rattle.readings.specs.Readings.{balanceOf, settledOf, IsLedgers};
+
+const MOST: u64 = 1152921504606846976;
+
+fn signed(up: u64, down: u64) -> i64
+    requires { ⌜ (up ≤ 4611686018427387904) × (down ≤ 4611686018427387904) ⌝ }
+    ensures { λ r. ⌜ r ≡ pos up -ℤ pos down ⌝ }
+{
+    up as i64 - down as i64
+}
+
+// The balance B, in cents.
+pub fn balance(s: Totals) -> i64
+    ensures { λ r. ⌜ r ≡ balanceOf s ⌝ }
+    ensures { λ r. ⌜ IsLedgers s (λ (t : Terms) (l : Ledger). l .balance) r ⌝ }
+{
+    if s.credit > MOST {
+        return 0;
+    }
+    if s.debit > MOST {
+        return 0;
+    }
+    signed(s.credit, s.debit)
+}
+
+// The unpaid plan R, in cents.
+pub fn plan(s: Totals) -> u64
+    ensures { λ r. ⌜ r ≡ s .plan ⌝ }
+    ensures { λ r. ⌜ IsLedgers s (λ (t : Terms) (l : Ledger). l .plan) r ⌝ }
+{
+    s.plan
+}
+
+// Whether service is on.
+pub fn service(s: Totals) -> bool
+    ensures { λ r. ⌜ r ≡ s .on ⌝ }
+    ensures { λ r. ⌜ IsLedgers s (λ (t : Terms) (l : Ledger). l .on) r ⌝ }
+{
+    s.on
+}
+
+// The settled amount: payments kept and credits, less charges and metered usage, in cents.
+pub fn settled(s: Totals) -> i64
+    ensures { λ r. ⌜ r ≡ settledOf s ⌝ }
+    ensures { λ r. ⌜ IsLedgers s (λ (t : Terms) (l : Ledger). sums.settled t (l .list)) r ⌝ }
+{
+    if s.credit > MOST {
+        return 0;
+    }
+    if s.debit > MOST {
+        return 0;
+    }
+    if s.plan > MOST {
+        return 0;
+    }
+    if s.standing > MOST {
+        return 0;
+    }
+    signed(s.credit + s.standing, s.debit + s.plan)
+}
+
+// The cost of the standing estimates, in cents.
+pub fn estimates(s: Totals) -> u64
+    ensures { λ r. ⌜ r ≡ s .standing ⌝ }
+    ensures { λ r. ⌜ IsLedgers s (λ (t : Terms) (l : Ledger). sums.standing t (l .list)) r ⌝ }
+{
+    s.standing
+}
