@@ -23,17 +23,19 @@ use Rattle.account.specs.Record.{fresh}
 use Rattle.account.specs.Head.{stepOf}
 use Rattle.account.specs.declared.Account.{Account}
 use Rattle.posting.specs.Posting.{accountAfter, codesOf, answerOf, rowOf, IsRow}
-use Rattle.refinement.proofs.Refines.{refines}
-use Rattle.readings.proofs.After.{Stands, stands-step, stands-fresh, stands-after, balance-is, settled-reads}
+use Rattle.refinement.specs.Agree.{Stands, Refinement}
+use Rattle.refinement.proofs.Refines.{refinement-holds}
+use Rattle.readings.proofs.After.{stands-after, balance-is, settled-reads}
 use Rattle.demand.specs.Calls.{Call, single, row, Back, answered, written, Seen, Reads, Called, Runs, ledgerCodes, ledgerCalled, ledgerBack, shows, ledgerSeen}
 use Rattle.demand.specs.Demand3.{Demand3, after}
 
 -- the codes of a row
-codes-are : (t : Terms) (es : List Event) (a : Account) (l : Ledger) → Stands t a l → codesOf a es ≡ ledgerCodes t l es
+codes-are : (t : Terms) → validTerms t ≡ true → (es : List Event) (a : Account) (l : Ledger) → Stands t a l → codesOf a es ≡ ledgerCodes t l es
 unfolding codesOf ledgerCodes
-codes-are t [] a l s = refl
-codes-are t (e ∷ es) a l s =
-    ap₂ (λ (c : ℕ) (r : List ℕ). c ∷ r) (refines t a l e (s .sane) (s .agree) .code) (codes-are t es (stepOf a e .account) (ledgerStep t l e .ledger) (stands-step t a l e s))
+codes-are t w [] a l s = refl
+codes-are t w (e ∷ es) a l s =
+    let r : Refinement t = refinement-holds t w in
+    ap₂ (λ (c : ℕ) (r : List ℕ). c ∷ r) (r .code a l e s) (codes-are t w es (stepOf a e .account) (ledgerStep t l e .ledger) (r .again a l e s))
 
 -- what is read of an account that agrees
 seen-is : (t : Terms) (a : Account) (l : Ledger) (v : Seen) (r : Back) → Stands t a l → v .back ≡ r → Reads a v → v ≡ shows t l r
@@ -54,16 +56,16 @@ record Alike (t : Terms) (v : Seen) (b : Account) (l : Ledger) (r : Back) : Type
 alike : (t : Terms) (v : Seen) (b : Account) (l : Ledger) (r : Back) → Stands t b l → v .back ≡ r → Reads b v → Alike t v b l r
 alike t v b l r s h q = record { seen = seen-is t b l v r s h q; stands = s }
 
-answer-is : (t : Terms) (a : Account) (l : Ledger) (e : Event) → Stands t a l → answerOf (stepOf a e) ≡ ledgerStep t l e .answer
-answer-is t a l e s =
-    let same = refines t a l e (s .sane) (s .agree) in
-    λ i. record { code = same .code i; value = same .value i }
+answer-is : (t : Terms) → validTerms t ≡ true → (a : Account) (l : Ledger) (e : Event) → Stands t a l → answerOf (stepOf a e) ≡ ledgerStep t l e .answer
+answer-is t w a l e s =
+    let r : Refinement t = refinement-holds t w in
+    λ i. record { code = r .code a l e s i; value = r .value a l e s i }
 
-called-is : (t : Terms) (a : Account) (l : Ledger) (c : Call) (v : Seen) (b : Account) → Stands t a l → Called a c v b → Alike t v b (ledgerCalled t l c) (ledgerBack t l c)
+called-is : (t : Terms) → validTerms t ≡ true → (a : Account) (l : Ledger) (c : Call) (v : Seen) (b : Account) → Stands t a l → Called a c v b → Alike t v b (ledgerCalled t l c) (ledgerBack t l c)
 unfolding ledgerCalled ledgerBack rowOf
-called-is t a l (single e) v b s (r, p, h, q) =
-    alike t v b (ledgerStep t l e .ledger) (answered (ledgerStep t l e .answer)) (rw (p .account) (stands-step t a l e s)) (h ∙ ap answered (p .answer ∙ answer-is t a l e s)) q
-called-is t a l (row es buffer) v b s (r, bytes, p, h, q) = decide (ltb (length buffer) (length es))
+called-is t w a l (single e) v b s (r, p, h, q) =
+    alike t v b (ledgerStep t l e .ledger) (answered (ledgerStep t l e .answer)) (rw (p .account) (refinement-holds t w .again a l e s)) (h ∙ ap answered (p .answer ∙ answer-is t w a l e s)) q
+called-is t w a l (row es buffer) v b s (r, bytes, p, h, q) = decide (ltb (length buffer) (length es))
     (λ y. let account : b ≡ a = simp y at (p .account) in
       let codes : bytes ≡ buffer = simp y at (p .codes) in
       let own : r ≡ 16 = simp y at (p .answer) in
@@ -72,19 +74,19 @@ called-is t a l (row es buffer) v b s (r, bytes, p, h, q) = decide (ltb (length 
       let codes : bytes ≡ codesOf a es ++ drop (length es) buffer = simp f at (p .codes) in
       let own : r ≡ 0 = simp f at (p .answer) in
       simp f (alike t v b (ledgerAfter t l es) (written 0 (ledgerCodes t l es ++ drop (length es) buffer))
-      (rw account (stands-after t es a l s))
-      (h ∙ ap₂ written own (codes ∙ ap (λ (k : List ℕ). k ++ drop (length es) buffer) (codes-are t es a l s)))
+      (rw account (stands-after t w es a l s))
+      (h ∙ ap₂ written own (codes ∙ ap (λ (k : List ℕ). k ++ drop (length es) buffer) (codes-are t w es a l s)))
       q))
 
 -- every list of calls, from any account and ledger that agree
-runs-are : (t : Terms) (cs : List Call) (vs : List Seen) (a : Account) (l : Ledger) → Stands t a l → Runs a cs vs → vs ≡ ledgerSeen t l cs
+runs-are : (t : Terms) → validTerms t ≡ true → (cs : List Call) (vs : List Seen) (a : Account) (l : Ledger) → Stands t a l → Runs a cs vs → vs ≡ ledgerSeen t l cs
 unfolding ledgerSeen
-runs-are t [] [] a l s q = refl
-runs-are t [] (v ∷ vs) a l s q = absurd q
-runs-are t (c ∷ cs) [] a l s q = absurd q
-runs-are t (c ∷ cs) (v ∷ vs) a l s (b, p, q) =
-    let one = called-is t a l c v b s p in
-    ap₂ (λ (x : Seen) (xs : List Seen). x ∷ xs) (one .seen) (runs-are t cs vs b (ledgerCalled t l c) (one .stands) q)
+runs-are t w [] [] a l s q = refl
+runs-are t w [] (v ∷ vs) a l s q = absurd q
+runs-are t w (c ∷ cs) [] a l s q = absurd q
+runs-are t w (c ∷ cs) (v ∷ vs) a l s (b, p, q) =
+    let one = called-is t w a l c v b s p in
+    ap₂ (λ (x : Seen) (xs : List Seen). x ∷ xs) (one .seen) (runs-are t w cs vs b (ledgerCalled t l c) (one .stands) q)
 
 -- a sum that leaves a number as it is, is 0
 adds-nothing : (z : ℤ) (n : ℕ) → z +ℤ pos n ≡ z → n ≡ 0
@@ -98,7 +100,7 @@ adds-nothing z n h =
 
 pub demand-3 : (t : Terms) → validTerms t ≡ true → Demand3 t
 demand-3 t v = record {
-  answers = λ cs vs q. runs-are t cs vs (fresh t) opening (stands-fresh t v) q;
+  answers = λ cs vs q. runs-are t v cs vs (fresh t) opening (refinement-holds t v .opens) q;
   identity = identity;
   exactly = λ es.
     (λ h. adds-nothing (after t es .balance -ℤ pos (after t es .plan)) (standing t (after t es .list)) (identity es ∙ sym h),
@@ -107,7 +109,7 @@ demand-3 t v = record {
 }
   where
     stands : (es : List Event) → Stands t (accountAfter (fresh t) es) (after t es)
-    stands es = stands-after t es (fresh t) opening (stands-fresh t v)
+    stands es = stands-after t v es (fresh t) opening (refinement-holds t v .opens)
 
     identity : (es : List Event) → after t es .balance -ℤ pos (after t es .plan) +ℤ pos (standing t (after t es .list)) ≡ settled t (after t es .list)
     identity es = settled-is t (after t es) (stands es .sane)

@@ -14,30 +14,20 @@ use Rattle.ledger.specs.Rules.{Ledger}
 use Rattle.ledger.specs.Sums as sums
 use Rattle.ledger.specs.Ledger.{opening, ledgerStep, ledgerAfter}
 use Rattle.ledger.proofs.Money.{diff, diff-add, diff-sub}
-use Rattle.ledger.proofs.Identity.{Sane, sane-valid, sane-step, settled-is}
+use Rattle.ledger.proofs.Identity.{Sane, settled-is}
 use Rattle.account.specs.Record.{fresh}
 use Rattle.account.specs.Head.{most, stepOf}
 use Rattle.account.specs.declared.Account.{Account}
 use Rattle.account.specs.declared.Totals.{Totals}
 use Rattle.posting.specs.Posting.{accountAfter}
-use Rattle.refinement.specs.Agree.{Agree, Sums, Bounds}
-use Rattle.refinement.proofs.Refines.{refines, agree-fresh}
+use Rattle.refinement.specs.Agree.{Sums, Bounds, Stands}
+use Rattle.refinement.proofs.Refines.{refinement-holds}
 use Rattle.readings.specs.Readings.{balanceOf, settledOf, Made, IsLedgers}
 
-pub record Stands (t : Terms) (a : Account) (l : Ledger) : Type 0 where
-  pub agree : Agree t a l
-  pub sane : Sane t l
-
-pub stands-step : (t : Terms) (a : Account) (l : Ledger) (e : Event) → Stands t a l → Stands t (stepOf a e .account) (ledgerStep t l e .ledger)
-stands-step t a l e s = record { agree = refines t a l e (s .sane) (s .agree) .again; sane = sane-step t l e (s .sane) }
-
-pub stands-fresh : (t : Terms) → validTerms t ≡ true → Stands t (fresh t) opening
-stands-fresh t v = record { agree = agree-fresh t v; sane = sane-valid t v }
-
-pub stands-after : (t : Terms) (es : List Event) (a : Account) (l : Ledger) → Stands t a l → Stands t (accountAfter a es) (ledgerAfter t l es)
+pub stands-after : (t : Terms) → validTerms t ≡ true → (es : List Event) (a : Account) (l : Ledger) → Stands t a l → Stands t (accountAfter a es) (ledgerAfter t l es)
 unfolding accountAfter ledgerAfter
-stands-after t [] a l s = s
-stands-after t (e ∷ es) a l s = stands-after t es (stepOf a e .account) (ledgerStep t l e .ledger) (stands-step t a l e s)
+stands-after t v [] a l s = s
+stands-after t v (e ∷ es) a l s = stands-after t v es (stepOf a e .account) (ledgerStep t l e .ledger) (refinement-holds t v .again a l e s)
 
 -- ---- the readings of totals that agree
 
@@ -61,7 +51,7 @@ module _ (t : Terms) (s : Totals) (l : Ledger) (g : Sums t s l) (b : Bounds s) w
 
 module _ (s : Totals) (t : Terms) (es : List Event) (m : Made s t es) where
   after : Stands t (accountAfter (fresh t) es) (ledgerAfter t opening es)
-  after = stands-after t es (fresh t) opening (stands-fresh t (m .valid))
+  after = stands-after t (m .valid) es (fresh t) opening (refinement-holds t (m .valid) .opens)
 
   sums-after : Sums t s (ledgerAfter t opening es)
   sums-after = rw (m .totals) (after .agree .sums)

@@ -12,10 +12,12 @@ use Rattle.ledger.specs.declared.Answer.{Answer}
 use Rattle.ledger.specs.Event.{isWarn}
 use Rattle.ledger.specs.Entries.{Entries, any, lastDay, payments, payment, reversed, UsageDay, blank, estimated, metered, usageDay, covered}
 use Rattle.ledger.specs.Rules.{Ledger}
-use Rattle.ledger.specs.Ledger.{Outcome}
+use Rattle.ledger.specs.Ledger.{Outcome, opening, ledgerStep}
+use Rattle.ledger.proofs.Identity.{Sane}
 use Rattle.ledger.specs.Sums.{standing}
 use Rattle.ledger.specs.Months.{chargesIn}
-use Rattle.account.specs.Record.{blankDay, noPayment, costHeld}
+use Rattle.account.specs.Record.{blankDay, noPayment, costHeld, fresh}
+use Rattle.account.specs.Head.{stepOf}
 use Rattle.account.specs.declared.Usage.{Usage}
 use Rattle.account.specs.declared.Usage.the-variants.{Blank, Estimated, Metered}
 use Rattle.account.specs.declared.Payment.{Payment}
@@ -96,3 +98,16 @@ pub record Same (t : Terms) (p : Posted) (o : Outcome) : Type 0 where
   pub code : p .code ≡ o .answer .code
   pub value : p .value ≡ o .answer .value
   pub again : Agree t (p .account) (o .ledger)
+
+-- The record stands for the ledger: they agree, and the ledger's sums add up.
+pub record Stands (t : Terms) (a : Account) (l : Ledger) : Type 0 where
+  pub agree : Agree t a l
+  pub sane : Sane t l
+
+-- The refinement: a fresh account stands for the opening ledger, and from an account that stands for a ledger every event gets the
+-- ledger's code and value and leaves an account that stands for the ledger after it.
+pub record Refinement (t : Terms) : Type 0 where
+  pub opens : Stands t (fresh t) opening
+  pub code : (a : Account) (l : Ledger) (e : Event) → Stands t a l → stepOf a e .code ≡ ledgerStep t l e .answer .code
+  pub value : (a : Account) (l : Ledger) (e : Event) → Stands t a l → stepOf a e .value ≡ ledgerStep t l e .answer .value
+  pub again : (a : Account) (l : Ledger) (e : Event) → Stands t a l → Stands t (stepOf a e .account) (ledgerStep t l e .ledger)
