@@ -61,5 +61,5 @@ first, last = date(2000, 1, 1), date(2099, 12, 31)
 for _ in range(240):
     pairs.append((first + timedelta(draw.randint(0, (last - first).days)), draw.randint(0, 399)))
 
-for opened, k in pairs:
+for opened, k in dict.fromkeys(pairs):
     print(line(opened, k))
