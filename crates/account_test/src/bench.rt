@@ -14,7 +14,7 @@ pub(crate) struct Bench {
 }
 
 // An account after a run of events, and whether each was answered as expected.
-struct Repeated {
+struct Outcome {
     account: Account,
     right: bool,
 }
@@ -256,7 +256,7 @@ pub(crate) fn stands(b: Bench, balance: i64, plan: u64, settled: i64, estimates:
 }
 
 // Posts the event n times.
-fn repeated(a: Account, e: Event, n: u32, code: u8) -> Repeated {
+fn repeated(a: Account, e: Event, n: u32, code: u8) -> Outcome {
     let mut at = a;
     let mut right = true;
     let mut i: u32 = 0;
@@ -268,7 +268,7 @@ fn repeated(a: Account, e: Event, n: u32, code: u8) -> Repeated {
         }
         i += 1;
     }
-    Repeated { account: at, right }
+    Outcome { account: at, right }
 }
 
 // The event with i as its payment number and its usage day.
@@ -280,7 +280,7 @@ fn numbered(e: Event, i: u32) -> Event {
 }
 
 // Posts the event for each number and usage day from 0 to n - 1.
-fn swept(a: Account, e: Event, n: u32, code: u8) -> Repeated {
+fn swept(a: Account, e: Event, n: u32, code: u8) -> Outcome {
     let mut at = a;
     let mut right = true;
     let mut i: u32 = 0;
@@ -292,10 +292,10 @@ fn swept(a: Account, e: Event, n: u32, code: u8) -> Repeated {
         }
         i += 1;
     }
-    Repeated { account: at, right }
+    Outcome { account: at, right }
 }
 
-fn held_to(b: Bench, r: Repeated, balance: i64, plan: u64) -> Bench {
+fn held_to(b: Bench, r: Outcome, balance: i64, plan: u64) -> Bench {
     let a = r.account;
     let s = a.totals;
     let mut right = r.right;

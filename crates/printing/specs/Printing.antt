@@ -1,0 +1,31 @@
+-- Numbers and words as bytes, and where they are put in a lent buffer.
+use Prim.Native.Nat.{ℕ, zero, suc, _+_, _/_, _%_}
+use mathlib.Core.Bool.{Bool, true, false, cond}
+use mathlib.Core.List.{List, [], _∷_, _++_}
+use lib.ListN.{length, take, drop}
+use lib.Dec.{ltb, leb}
+use lib.IntN.{ℤ, pos, negsuc}
+
+-- the last k digits or fewer, in base ten, with no leading zero
+unfoldable pub digits : ℕ → ℕ → List ℕ
+digits zero n = []
+digits (suc k) n = cond (ltb n 10) ((48 + n) ∷ []) (digits k (n / 10) ++ ((48 + n % 10) ∷ []))
+
+-- a number in base ten, zero being `0`: n has fewer than n + 1 digits, or is 0
+unfoldable pub decimal : ℕ → List ℕ
+decimal n = digits (suc n) n
+
+-- "a negative sum has a leading minus"
+unfoldable pub signed : ℤ → List ℕ
+signed (pos n) = decimal n
+signed (negsuc n) = 45 ∷ decimal (suc n)
+
+-- The buffer with these bytes from place `at` on, and the place after them. Where they do not fit, nothing is put.
+unfoldable pub fits : List ℕ → ℕ → List ℕ → Bool
+fits buffer at bytes = leb (at + length bytes) (length buffer)
+
+unfoldable pub put : List ℕ → ℕ → List ℕ → List ℕ
+put buffer at bytes = cond (fits buffer at bytes) (take at buffer ++ (bytes ++ drop (at + length bytes) buffer)) buffer
+
+unfoldable pub past : List ℕ → ℕ → List ℕ → ℕ
+past buffer at bytes = cond (fits buffer at bytes) (at + length bytes) at

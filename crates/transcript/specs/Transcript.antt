@@ -1,0 +1,77 @@
+-- What `prepay` prints, as a definition of the bytes it was given, in the ledger's terms (document 01, "Event text").
+use Prim.Native.Nat.{ℕ, zero, suc, _+_}
+use mathlib.Core.Bool.{Bool, true, cond}
+use mathlib.Core.List.{List, [], _∷_, _++_}
+use lib.ListN.{length}
+use lib.Dec.{ltb}
+use lib.IntN.{ℤ, pos}
+use Rattle.terms.specs.Terms.{validTerms}
+use Rattle.terms.specs.declared.Terms.{Terms}
+use Rattle.ledger.specs.declared.Event.{Event}
+use Rattle.ledger.specs.Rules.{Ledger}
+use Rattle.ledger.specs.Ledger.{Outcome, opening, ledgerStep}
+use Rattle.ledger.specs.Sums.{settled, standing}
+use Rattle.text.specs.Text.{Read, got, broken, readTerms, readEvent}
+use Rattle.printing.specs.Printing.{decimal, signed}
+
+-- ` code=`, ` value=`, ` balance=`, ` plan=`, ` estimates=`, and `n=`, `settled=`
+abbrev pub wN : List ℕ
+wN = 110 ∷ 61 ∷ []
+
+abbrev pub wCode : List ℕ
+wCode = 32 ∷ 99 ∷ 111 ∷ 100 ∷ 101 ∷ 61 ∷ []
+
+abbrev pub wValue : List ℕ
+wValue = 32 ∷ 118 ∷ 97 ∷ 108 ∷ 117 ∷ 101 ∷ 61 ∷ []
+
+abbrev pub wBalance : List ℕ
+wBalance = 32 ∷ 98 ∷ 97 ∷ 108 ∷ 97 ∷ 110 ∷ 99 ∷ 101 ∷ 61 ∷ []
+
+abbrev pub wPlan : List ℕ
+wPlan = 32 ∷ 112 ∷ 108 ∷ 97 ∷ 110 ∷ 61 ∷ []
+
+abbrev pub wSettled : List ℕ
+wSettled = 115 ∷ 101 ∷ 116 ∷ 116 ∷ 108 ∷ 101 ∷ 100 ∷ 61 ∷ []
+
+abbrev pub wEstimates : List ℕ
+wEstimates = 32 ∷ 101 ∷ 115 ∷ 116 ∷ 105 ∷ 109 ∷ 97 ∷ 116 ∷ 101 ∷ 115 ∷ 61 ∷ []
+
+abbrev pub wFeed : List ℕ
+wFeed = 10 ∷ []
+
+-- "per event its ordinal, code, value, then B and R after it"
+unfoldable pub line : ℕ → ℕ → ℕ → ℤ → ℕ → List ℕ
+line n code value balance plan =
+    wN ++ (decimal n ++ (wCode ++ (decimal code ++ (wValue ++ (decimal value ++ (wBalance ++ (signed balance ++ (wPlan ++ (decimal plan ++ wFeed)))))))))
+
+-- "a last line with the settled amount and the cost of the standing estimates"
+unfoldable pub lastLine : ℤ → ℕ → List ℕ
+lastLine sum cost = wSettled ++ (signed sum ++ (wEstimates ++ (decimal cost ++ wFeed)))
+
+-- the last line of a ledger
+abbrev pub closing : Terms → Ledger → List ℕ
+closing t l = lastLine (settled t (l .list)) (standing t (l .list))
+
+-- The lines of the events that stand in the bytes, the first of them with ordinal n, and the last line; k is the number of bytes and one more.
+-- "Code 15 prints its line and no more is read, then the last line."
+unfoldable pub eventLines : ℕ → Terms → Ledger → ℕ → List ℕ → List ℕ
+eventLines zero t l n s = []
+eventLines (suc k) t l n [] = closing t l
+eventLines (suc k) t l n (b ∷ s) =
+    elim (readEvent (b ∷ s)) [
+      got e r ↦ line n (ledgerStep t l e .answer .code) (ledgerStep t l e .answer .value) (ledgerStep t l e .ledger .balance) (ledgerStep t l e .ledger .plan)
+        ++ eventLines k t (ledgerStep t l e .ledger) (n + 1) r
+    | broken ↦ line n 15 0 (l .balance) (l .plan) ++ closing t l
+    ]
+
+-- "Refused or malformed terms print one line, `n=0`, with the code and zeros, and nothing after."
+abbrev pub termsLine : ℕ → List ℕ
+termsLine code = line 0 code 0 (pos 0) 0
+
+-- "15 in the terms precedes 1, and a text too long has malformed terms."
+abbrev pub byTerms : Read Terms → List ℕ
+byTerms (got t r) = cond (validTerms t) (eventLines (suc (length r)) t opening 1 r) (termsLine 1)
+byTerms broken = termsLine 15
+
+unfoldable pub transcript : List ℕ → List ℕ
+transcript s = cond (ltb 65536 (length s)) (termsLine 15) (byTerms (readTerms s))
