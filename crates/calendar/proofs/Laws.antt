@@ -8,7 +8,7 @@ use native.Mathlib.Omega.{arith}
 use lib.ListN.{List·getD-eq-default}
 use lib.Dec.{leb, ltb, eqb}
 use borrow.Author.Tests.{ltb-true, ltb-false, leb-true, leb-false, eqb-true, eqb-false, le-leb}
-use Rattle.calendar.specs.Calendar.{on, leapYear, monthDays, monthLength, isDate, nextOf, dateOn, total, lengthAfter}
+use Rattle.calendar.specs.Calendar.{date, leapYear, monthDays, monthLength, isDate, nextOf, dateOn, total, lengthAfter}
 use Rattle.calendar.specs.Calendar.{monthsAfter, daysAfter, weekdayAfter, weekdayOf, monthFrom, opens, reached, isDay, dateAnswer}
 use Rattle.calendar.specs.declared.Date.{Date}
 use Rattle.calendar.specs.declared.Dated.the-variants as dated
@@ -112,7 +112,7 @@ pub record Next (d e : Date) : Type 0 where
   pub later : daysAfter e ≡ suc (daysAfter d)
 
 -- within a month
-same-month : (d : Date) → Real d → d .day < monthLength (d .year) (d .month) → Next d (on (d .year) (d .month) (d .day + 1))
+same-month : (d : Date) → Real d → d .day < monthLength (d .year) (d .month) → Next d (date (d .year) (d .month) (d .day + 1))
 unfolding daysAfter
 same-month d r h = record {
   real = record { since = r .since; month-low = r .month-low; month-high = r .month-high; day-low = omega arith; day-high = omega arith };
@@ -120,7 +120,7 @@ same-month d r h = record {
 }
 
 -- from the last day of a month to the first of the next
-new-month : (d : Date) (y m : ℕ) → Real d → monthLength (d .year) (d .month) ≤ d .day → 2000 ≤ y → 1 ≤ m → m ≤ 12 → monthsAfter (on y m 1) ≡ suc (monthsAfter d) → Next d (on y m 1)
+new-month : (d : Date) (y m : ℕ) → Real d → monthLength (d .year) (d .month) ≤ d .day → 2000 ≤ y → 1 ≤ m → m ≤ 12 → monthsAfter (date y m 1) ≡ suc (monthsAfter d) → Next d (date y m 1)
 unfolding daysAfter total
 new-month d y m r h hy hm hm′ e = record {
   real = record { since = hy; month-low = hm; month-high = hm′; day-low = omega arith; day-high = omega (arith, month-length y m hm hm′) };

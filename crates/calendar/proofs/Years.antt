@@ -7,7 +7,7 @@ use native.Mathlib.Numerals.{add-one}
 use native.Mathlib.Omega.{arith}
 use lib.Dec.{leb, ltb, eqb}
 use borrow.Author.Tests.{ltb-true, ltb-false, leb-true, eqb-true, le-leb}
-use Rattle.calendar.specs.Calendar.{on, leapYear, monthDays, monthLength, isDate, total, lengthAfter, daysAfter, dateOn}
+use Rattle.calendar.specs.Calendar.{date, leapYear, monthDays, monthLength, isDate, total, lengthAfter, daysAfter, dateOn}
 use Rattle.calendar.specs.Work.{daysBefore, yearLength, carry, InYear}
 use Rattle.calendar.specs.declared.Date.{Date}
 use Rattle.calendar.specs.declared.Place.{Place}
@@ -82,7 +82,7 @@ years-sum (suc n) h = rw (← add-one n) (year-sum n ∙ omega (arith, years-sum
 -- ---- the date of a day of a year
 
 -- the day lies in month m where it lies between the first of m and of m + 1
-pub in-year : (y left m : ℕ) → m ≤ 12 → daysBefore (leapYear y) m ≤ left → left < daysBefore (leapYear y) (m + 1) → InYear y left (on y m (left - daysBefore (leapYear y) m + 1))
+pub in-year : (y left m : ℕ) → m ≤ 12 → daysBefore (leapYear y) m ≤ left → left < daysBefore (leapYear y) (m + 1) → InYear y left (date y m (left - daysBefore (leapYear y) m + 1))
 unfolding isDate monthLength
 in-year y left m h l u =
     let b = before-next (leapYear y) m in

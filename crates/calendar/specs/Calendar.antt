@@ -13,8 +13,8 @@ use Rattle.calendar.specs.declared.Numbered.{Numbered}
 use Rattle.calendar.specs.declared.Numbered.the-variants as numbered
 use Rattle.calendar.specs.declared.Days.{Days}
 
-abbrev pub on : ℕ → ℕ → ℕ → Date
-on y m d = record { year = y; month = m; day = d }
+abbrev pub date : ℕ → ℕ → ℕ → Date
+date y m d = record { year = y; month = m; day = d }
 
 -- Every fourth year is a leap year, but of the centuries only every fourth. "2100 is no leap year."
 abbrev pub leapYear : ℕ → Bool
@@ -35,8 +35,8 @@ isDate y m d = leb 1 d && leb d (monthLength y m)
 unfoldable pub nextOf : Date → Date
 nextOf d =
     cond (ltb (d .day) (monthLength (d .year) (d .month)))
-    (on (d .year) (d .month) (d .day + 1))
-    (cond (ltb (d .month) 12) (on (d .year) (d .month + 1) 1) (on (d .year + 1) 1 1))
+    (date (d .year) (d .month) (d .day + 1))
+    (cond (ltb (d .month) 12) (date (d .year) (d .month + 1) 1) (date (d .year + 1) 1 1))
 
 -- "Day k is that date plus k days."
 unfoldable pub dateOn : Date → ℕ → Date
@@ -56,7 +56,7 @@ lengthAfter i = monthLength (2000 + i / 12) (i % 12 + 1)
 abbrev pub monthsAfter : Date → ℕ
 monthsAfter d = 12 * (d .year - 2000) + (d .month - 1)
 
--- How many days after 2000-01-01 a date of 2000 or later is: the whole months before it, and the days of its own month.
+-- How many days after 2000-01-01 a date of 2000 or later is: the whole months before it, and the days before it in its own month.
 unfoldable pub daysAfter : Date → ℕ
 daysAfter d = total lengthAfter (monthsAfter d) + (d .day - 1)
 
@@ -76,7 +76,7 @@ monthFrom opened d = (12 * d .year + d .month) - (12 * opened .year + opened .mo
 unfoldable pub opens : Date → Bool
 opens d = leb 2000 (d .year) && (leb (d .year) 2099 && isDate (d .year) (d .month) (d .day))
 
--- The dates that the calendar's code works on: all that an account can reach, to the end of 2101.
+-- The dates that the calendar's code works on: to the end of 2101, the year in which the last account ends.
 unfoldable pub reached : Date → Bool
 reached d = leb 2000 (d .year) && (leb (d .year) 2101 && isDate (d .year) (d .month) (d .day))
 

@@ -5,6 +5,7 @@ use native.Mathlib.Omega.{arith}
 use mathlib.Core.Path.{_≡_, refl, sym, ap, ap₂, _∙_}
 use mathlib.Core.Bool.{Bool, true, false, cond}
 use mathlib.Core.List.{List, [], _∷_, _++_}
+use mathlib.Core.Logic.{_↔_}
 use lib.ListN.{length, drop}
 use lib.Dec.{ltb, eqb}
 use lib.IntN.{ℤ, pos, negℤ, natAbs, _+ℤ_, _-ℤ_, +ℤ-idl, +ℤ-idr, +ℤ-invl, +ℤ-assoc}
@@ -13,12 +14,14 @@ use Rattle.terms.specs.Terms.{validTerms}
 use Rattle.terms.specs.declared.Terms.{Terms}
 use Rattle.ledger.specs.declared.Event.{Event}
 use Rattle.ledger.specs.declared.Answer.{Answer}
+use Rattle.ledger.specs.Entries.{usageDay, estimateCost}
 use Rattle.ledger.specs.Rules.{Ledger}
 use Rattle.ledger.specs.Sums.{settled, standing}
 use Rattle.ledger.specs.Ledger.{opening, ledgerStep, ledgerAfter}
 use Rattle.ledger.proofs.Cases.{decide}
 use Rattle.ledger.proofs.Identity.{settled-is}
 use Rattle.ledger.proofs.Disconnect.{disconnect-granted}
+use Rattle.ledger.proofs.Standing.{standing-none}
 use Rattle.account.specs.Record.{fresh}
 use Rattle.account.specs.Head.{stepOf}
 use Rattle.account.specs.declared.Account.{Account}
@@ -26,7 +29,7 @@ use Rattle.posting.specs.Posting.{accountAfter, codesOf, answerOf, rowOf, IsRow
 use Rattle.refinement.specs.Agree.{Stands, Refinement}
 use Rattle.refinement.proofs.Refines.{refinement-holds}
 use Rattle.readings.proofs.After.{stands-after, balance-is, settled-reads}
-use Rattle.demand.specs.Calls.{Call, single, row, Back, answered, written, Seen, Reads, Called, Runs, ledgerCodes, ledgerCalled, ledgerBack, shows, ledgerSeen}
+use Rattle.demand.specs.Calls.{Call, single, row, Back, answered, written, Seen, Reads, Called, Runs, ledgerCodes, ledgerCalled, ledgerBack, shows, ledgerSeen, ledgerCalls, eventsOf}
 use Rattle.demand.specs.Demand3.{Demand3, after}
 
 -- the codes of a row
@@ -88,6 +91,69 @@ runs-are t w (c ∷ cs) (v ∷ vs) a l s (b, p, q) =
     let one = called-is t w a l c v b s p in
     ap₂ (λ (x : Seen) (xs : List Seen). x ∷ xs) (one .seen) (runs-are t w cs vs b (ledgerCalled t l c) (one .stands) q)
 
+-- ---- and the calls' promises let it be seen
+
+-- an account that agrees is read as the ledger shows
+reads-are : (t : Terms) (a : Account) (l : Ledger) (r : Back) → Stands t a l → Reads a (shows t l r)
+reads-are t a l r s =
+    let g = s .agree in
+    record {
+      balance = sym (balance-is t (a .totals) l (g .sums) (g .bounds));
+      plan = sym (g .sums .plan);
+      on = sym (g .sums .on);
+      settled = sym (settled-reads t (a .totals) l (g .sums) (g .bounds) (s .sane));
+      standing = sym (g .sums .standing);
+    }
+
+record Next (t : Terms) (a : Account) (c : Call) (l : Ledger) (r : Back) : Type 0 where
+  account : Account
+  called : Called a c (shows t l r) account
+  stands : Stands t account l
+
+next-of : (t : Terms) → validTerms t ≡ true → (a : Account) (l : Ledger) (c : Call) → Stands t a l → Next t a c (ledgerCalled t l c) (ledgerBack t l c)
+unfolding ledgerCalled ledgerBack rowOf
+next-of t w a l (single e) s =
+    let r : Refinement t = refinement-holds t w in
+    let b : Stands t (stepOf a e .account) (ledgerStep t l e .ledger) = r .again a l e s in
+    record {
+      account = stepOf a e .account;
+      called = (answerOf (stepOf a e), record { account = refl; answer = refl }, sym (ap answered (answer-is t w a l e s)), reads-are t _ _ _ b);
+      stands = b;
+    }
+next-of t w a l (row es buffer) s = decide (ltb (length buffer) (length es))
+    (λ y. simp y (record {
+      account = a;
+      called = (16, buffer, record { account = simp y; codes = simp y; answer = simp y }, refl, reads-are t a l _ s);
+      stands = s;
+    }))
+    (λ f. let b : Stands t (accountAfter a es) (ledgerAfter t l es) = stands-after t w es a l s in
+      simp f (record {
+        account = accountAfter a es;
+        called = (0, codesOf a es ++ drop (length es) buffer, record { account = simp f; codes = simp f; answer = simp f },
+          ap (λ (k : List ℕ). written 0 (k ++ drop (length es) buffer)) (sym (codes-are t w es a l s)), reads-are t _ _ _ b);
+        stands = b;
+      }))
+
+runs-of : (t : Terms) → validTerms t ≡ true → (cs : List Call) (a : Account) (l : Ledger) → Stands t a l → Runs a cs (ledgerSeen t l cs)
+unfolding ledgerSeen
+runs-of t w [] a l s = tt
+runs-of t w (c ∷ cs) a l s = let n = next-of t w a l c s in (n .account, n .called, runs-of t w cs (n .account) (ledgerCalled t l c) (n .stands))
+
+-- ---- the calls' events
+
+after-both : (t : Terms) (es fs : List Event) (l : Ledger) → ledgerAfter t l (es ++ fs) ≡ ledgerAfter t (ledgerAfter t l es) fs
+unfolding ledgerAfter
+after-both t [] fs l = refl
+after-both t (e ∷ es) fs l = after-both t es fs (ledgerStep t l e .ledger)
+
+calls-are : (t : Terms) (cs : List Call) (l : Ledger) → ledgerCalls t l cs ≡ ledgerAfter t l (eventsOf cs)
+unfolding ledgerCalls ledgerCalled eventsOf ledgerAfter
+calls-are t [] l = refl
+calls-are t (single e ∷ cs) l = calls-are t cs (ledgerStep t l e .ledger)
+calls-are t (row es buffer ∷ cs) l = decide (ltb (length buffer) (length es))
+    (λ y. simp y (calls-are t cs l))
+    (λ f. simp f (calls-are t cs (ledgerAfter t l es) ∙ sym (after-both t es (eventsOf cs) l)))
+
 -- a sum that leaves a number as it is, is 0
 adds-nothing : (z : ℤ) (n : ℕ) → z +ℤ pos n ≡ z → n ≡ 0
 adds-nothing z n h =
@@ -101,10 +167,12 @@ adds-nothing z n h =
 pub demand-3 : (t : Terms) → validTerms t ≡ true → Demand3 t
 demand-3 t v = record {
   answers = λ cs vs q. runs-are t v cs vs (fresh t) opening (refinement-holds t v .opens) q;
+  runs = λ cs. runs-of t v cs (fresh t) opening (refinement-holds t v .opens);
+  list = λ cs. calls-are t cs opening;
   identity = identity;
   exactly = λ es.
-    (λ h. adds-nothing (after t es .balance -ℤ pos (after t es .plan)) (standing t (after t es .list)) (identity es ∙ sym h),
-    λ z. sym (+ℤ-idr (after t es .balance -ℤ pos (after t es .plan))) ∙ ap (λ (n : ℕ). after t es .balance -ℤ pos (after t es .plan) +ℤ pos n) (sym z) ∙ identity es);
+    (λ h. none es .0 (adds-nothing (after t es .balance -ℤ pos (after t es .plan)) (standing t (after t es .list)) (identity es ∙ sym h)),
+    λ z. sym (+ℤ-idr (after t es .balance -ℤ pos (after t es .plan))) ∙ ap (λ (n : ℕ). after t es .balance -ℤ pos (after t es .plan) +ℤ pos n) (sym (none es .1 z)) ∙ identity es);
   disconnects = λ es e k d f. disconnect-granted t (after t es) e (eqb-true (e .sort) 10 k) d f;
 }
   where
@@ -113,3 +181,6 @@ demand-3 t v = record {
 
     identity : (es : List Event) → after t es .balance -ℤ pos (after t es .plan) +ℤ pos (standing t (after t es .list)) ≡ settled t (after t es .list)
     identity es = settled-is t (after t es) (stands es .sane)
+
+    none : (es : List Event) → (standing t (after t es .list) ≡ 0) ↔ ((u : ℕ) → estimateCost (usageDay t (after t es .list) u) ≡ 0)
+    none es = standing-none t (after t es) (stands es .sane)

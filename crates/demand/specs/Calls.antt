@@ -90,3 +90,14 @@ shows t l r = record {
 unfoldable pub ledgerSeen : Terms → Ledger → List Call → List Seen
 ledgerSeen t l [] = []
 ledgerSeen t l (c ∷ cs) = shows t (ledgerCalled t l c) (ledgerBack t l c) ∷ ledgerSeen t (ledgerCalled t l c) cs
+
+-- the ledger after a list of calls
+unfoldable pub ledgerCalls : Terms → Ledger → List Call → Ledger
+ledgerCalls t l [] = l
+ledgerCalls t l (c ∷ cs) = ledgerCalls t (ledgerCalled t l c) cs
+
+-- demand 3's list: the events of the calls in order
+unfoldable pub eventsOf : List Call → List Event
+eventsOf [] = []
+eventsOf (single e ∷ cs) = e ∷ eventsOf cs
+eventsOf (row es buffer ∷ cs) = cond (ltb (length buffer) (length es)) [] es ++ eventsOf cs

@@ -14,7 +14,7 @@ use Rattle.terms.specs.declared.Terms.{Terms}
 use Rattle.ledger.specs.declared.Event.{Event}
 use Rattle.ledger.specs.Event.{isPay, isReverse, isEstimate, isRead, isPlan, isDisconnect, isConnect, inLimits}
 use Rattle.ledger.specs.Entries.{lastDay, payments, reversed, warned, usageDay, isBlank, isMetered, barred}
-use Rattle.ledger.specs.Rules.{Ledger, Rule, planAllowed, refusals, lowest}
+use Rattle.ledger.specs.Rules.{Ledger, Rule, planAllowed, refusals, firstOf}
 use Rattle.ledger.specs.Ledger.{refusal, accepts}
 use Rattle.ledger.proofs.Cases.{decide, neither, both}
 
@@ -42,9 +42,9 @@ numbered (r ∷ rs) = ltb 0 (r .0) && numbered rs
 noRule : Rule
 noRule = (0, false)
 
--- Where the lowest number is 0, no rule applies.
-none-applies : (rs : List Rule) → numbered rs ≡ true → lowest rs ≡ 0 → (i : ℕ) → getD rs i noRule .1 ≡ false
-unfolding numbered lowest noRule
+-- Where the firstOf number is 0, no rule applies.
+none-applies : (rs : List Rule) → numbered rs ≡ true → firstOf rs ≡ 0 → (i : ℕ) → getD rs i noRule .1 ≡ false
+unfolding numbered firstOf noRule
 none-applies [] n z i = refl
 none-applies (r ∷ rs) n z i = decide (r .1)
     (λ t. absurd (omega (arith, ltb-true 0 (r .0) (above .0), simp t at z)))

@@ -13,7 +13,7 @@ use Rattle.terms.specs.declared.Terms.{Terms}
 use Rattle.ledger.specs.declared.Event.{Event}
 use Rattle.ledger.specs.Event.{isDisconnect, isConnect, inLimits}
 use Rattle.ledger.specs.Entries.{lastDay, warned, barred}
-use Rattle.ledger.specs.Rules.{Ledger, refusals, lowest}
+use Rattle.ledger.specs.Rules.{Ledger, refusals, firstOf}
 use Rattle.ledger.specs.Ledger.{accepts, refusal, ledgerStep}
 use Rattle.ledger.proofs.Cases.{decide, neither}
 use Rattle.ledger.proofs.Accepted.{Accepted, accepted-by}
@@ -50,7 +50,7 @@ pub disconnect-granted : (t : Terms) (l : Ledger) (e : Event) → e .sort ≡ 10
     → (ltb (e .day) (lastDay (l .list)) || ltb 399 (e .day)) ≡ false → leb 4096 (length (l .list)) ≡ false
     → (ledgerStep t l e .answer .code ≡ 0)
     ↔ ((l .on ≡ true) × (ltZ (l .balance) (pos (t .cutoff)) ≡ true) × (warned (e .day) (l .list) ≡ true) × (barred t (e .day) (l .list) ≡ false))
-unfolding refusal refusals lowest inLimits
+unfolding refusal refusals firstOf inLimits
 disconnect-granted t l e k day room = (
   (λ c. grounds-of t l e k (accepted-by t l e (eq-eqb (refusal t l e) 0 (sym (code-is t l e) ∙ c)))),
   (λ g. let b : leZ (pos (t .cutoff)) (l .balance) ≡ false = not-true _ (sym (ltZ-not (l .balance) (pos (t .cutoff))) ∙ g .1) in

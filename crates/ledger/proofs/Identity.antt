@@ -14,8 +14,8 @@ use Rattle.terms.specs.declared.Terms.{Terms}
 use Rattle.terms.specs.Terms.{validTerms}
 use Rattle.ledger.specs.declared.Event.{Event}
 use Rattle.ledger.specs.Event.{isPay, isReverse, isCredit, isCharge, isEstimate, isRead, isPlan, isDisconnect, isConnect}
-use Rattle.ledger.specs.Entries.{Entry, Entries, any, count, sum, find, lastDay, payments, hasNumber, payment, reversed, priceOn, UsageDay, readOn, estimateOn, whOn, usageDay, isBlank, isMetered, estimateCost}
-use Rattle.ledger.specs.Sums.{kept, credits, charges, costIn, reads, settled, standing}
+use Rattle.ledger.specs.Entries.{costIn, Entry, Entries, any, count, sum, find, lastDay, payments, hasNumber, payment, reversed, priceOn, UsageDay, readOn, estimateOn, whOn, usageDay, isBlank, isMetered, estimateCost}
+use Rattle.ledger.specs.Sums.{kept, credits, charges, reads, settled, standing}
 use Rattle.ledger.specs.Rules.{Ledger, planAllowed}
 use Rattle.ledger.specs.Ledger.{opening, Move, planPart, payMove, reverseMove, balanceMove, serviceMove, eventCost, estimateMove, readMove, deferred, planMove, moveOf, moved, accepts, ledgerStep}
 use Rattle.ledger.proofs.Cases.{decide, neither, both, other}
@@ -138,7 +138,7 @@ module _ (t : Terms) (l : Entries) (x : Entry) (past : All (UsedBefore (x .event
   )
 
 -- the estimate that a read replaces
-replaced : (t : Terms) (l : Entries) (u : ℕ) → count (estimateOn u) l ≤ 1 → any (readOn u) l ≡ false
+pub replaced : (t : Terms) (l : Entries) (u : ℕ) → count (estimateOn u) l ≤ 1 → any (readOn u) l ≡ false
     → weigh (λ y b. isEstimate (y .event) && eqb (y .event .usage) u) (λ y. costIn t l (y .event)) l ≡ estimateCost (usageDay t l u)
 replaced t l u h f =
     one-weighs (λ y b. estimateOn u (y .event)) (λ y. costIn t l (y .event)) (nothing-costs (priceOn t l 0)) l (omega (arith, count-weighs (estimateOn u) l))

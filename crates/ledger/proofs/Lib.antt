@@ -5,3 +5,4 @@ pub mod Weights
 pub mod Back
 pub mod Identity
 pub mod Disconnect
+pub mod Standing

@@ -33,13 +33,14 @@ unfoldable pub sum : (Entry → Entries → ℕ) → Entries → ℕ
 sum f [] = 0
 sum f (x ∷ l) = sum f l + f x l
 
--- The newest entry that f picks, each with those accepted before it. (Every use picks one at the most.)
+-- no entry: what is found where there is none
 abbrev pub noEntry : Entry
 noEntry = record {
   event = record { sort = 0; day = 0; amount = 0; number = 0; kind = 0; usage = 0; wh = 0; from = 0; to = 0 };
   part = 0;
 }
 
+-- The newest entry that f picks, each with those accepted before it. (Every use picks one at the most.)
 unfoldable pub find : (Entry → Entries → Bool) → Entries → Entry
 find f [] = noEntry
 find f (x ∷ l) = cond (f x l) x (find f l)
@@ -49,7 +50,7 @@ unfoldable pub lastDay : Entries → ℕ
 lastDay [] = 0
 lastDay (x ∷ l) = x .event .day
 
--- "the counts of events and payments"
+-- "the counts of events and payments": the payments; the events are the length of L.
 unfoldable pub payments : Entries → ℕ
 payments l = count isPay l
 
@@ -68,9 +69,13 @@ reversed n l = any (λ (e : Event). isReverse e && eqb (e .number) n) l
 unfoldable pub warned : ℕ → Entries → Bool
 warned x l = any (λ (e : Event). isWarn e && (leb (e .day + 1) x && leb x (e .day + 7))) l
 
--- The price in force on usage day u (T-01: by the day).
+-- The price in force on usage day u: the opening price on every day. (T-01 will change this definition.)
 unfoldable pub priceOn : Terms → Entries → ℕ → ℕ
 priceOn t l u = t .price
+
+-- the cost of an event's Wh on its usage day
+abbrev pub costIn : Terms → Entries → Event → ℕ
+costIn t l e = costOf (e .wh) (priceOn t l (e .usage))
 
 -- "A usage day is metered if L has a read of it, else estimated if L has an estimate of it, else blank; its cost is that event's."
 pub data UsageDay : Type 0 where
@@ -109,7 +114,7 @@ estimateCost blank = 0
 estimateCost (estimated wh cost) = cost
 estimateCost (metered wh cost) = 0
 
--- "A mark in L covers days `from` to `to`." (T-10: less what is withdrawn.)
+-- "A mark in L covers days `from` to `to`." (T-10 will change this definition.)
 unfoldable pub covered : ℕ → ℕ → Entries → Bool
 covered kind d l = any (λ (e : Event). isMark e && (eqb (e .kind) kind && (leb (e .from) d && leb d (e .to)))) l
 
@@ -125,7 +130,7 @@ weekday t d = weekdayOf (dateOn (t .opened) d)
 unfoldable pub barred : Terms → ℕ → Entries → Bool
 barred t d l = leb 5 (weekday t d) || (covered 1 d l || (covered 2 d l || covered 3 d l))
 
--- "Business days are Monday to Friday." (T-03: holidays are none.)
+-- "Business days are Monday to Friday." (T-03 will change this definition.)
 unfoldable pub business : Terms → Entries → ℕ → Bool
 business t l d = ltb (weekday t d) 5
 

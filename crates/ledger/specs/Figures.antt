@@ -2,7 +2,7 @@
 use Prim.Native.Nat.{ℕ}
 use mathlib.Core.List.{List, [], _∷_}
 use lib.IntN.{ℤ, pos, negℤ}
-use Rattle.calendar.specs.Calendar.{on}
+use Rattle.calendar.specs.Calendar.{date}
 use Rattle.terms.specs.declared.Terms.{Terms}
 use Rattle.ledger.specs.declared.Event.{Event}
 use Rattle.ledger.specs.Ledger.{opening, answer, Outcome, ledgerStep}
@@ -61,7 +61,7 @@ connect x = record { sort = 11; day = x; amount = 0; number = 0; kind = 0; usage
 
 -- "terms `2024-01-01`, 1250, 5000, 1000, 50 (day 0 is a Monday)"
 abbrev pub terms : Terms
-terms = record { opened = on 2024 1 1; price = 1250; connect = 5000; cutoff = 1000; share = 50 }
+terms = record { opened = date 2024 1 1; price = 1250; connect = 5000; cutoff = 1000; share = 50 }
 
 abbrev pub row : List Event → ℕ → ℕ → ℤ → ℕ → Figure
 row es code value b r = record { terms = terms; events = es; expected = record { code = code; value = value; balance = b; plan = r } }

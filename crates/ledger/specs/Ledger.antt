@@ -4,13 +4,12 @@ use mathlib.Core.Bool.{Bool, true, false, cond}
 use mathlib.Core.List.{List, [], _∷_}
 use lib.Dec.{eqb}
 use lib.IntN.{ℤ, pos, _+ℤ_, _-ℤ_, natAbs}
-use Rattle.tariff.specs.Tariff.{costOf}
 use Rattle.terms.specs.declared.Terms.{Terms}
 use Rattle.ledger.specs.declared.Event.{Event}
 use Rattle.ledger.specs.declared.Answer.{Answer}
 use Rattle.ledger.specs.Event.{isPay, isReverse, isCredit, isCharge, isEstimate, isRead, isPlan, isDisconnect, isConnect}
-use Rattle.ledger.specs.Entries.{Entry, payments, payment, priceOn, usageDay, estimateCost}
-use Rattle.ledger.specs.Rules.{Ledger, refusals, lowest}
+use Rattle.ledger.specs.Entries.{Entry, payments, payment, costIn, usageDay, estimateCost}
+use Rattle.ledger.specs.Rules.{Ledger, refusals, firstOf}
 
 -- "At first L is empty, B and R are 0, service is off."
 abbrev pub opening : Ledger
@@ -24,7 +23,7 @@ pub record Move : Type 0 where
   pub plan : ℕ
   pub on : Bool
 
--- "Plan part = the smaller of R and amount × share / 100 rounded down." (T-07: 0 while instalments are left.)
+-- "Plan part = the smaller of R and amount × share / 100 rounded down." (T-07 will change this definition.)
 unfoldable pub planPart : Terms → Ledger → ℕ → ℕ
 planPart t l amount = min (l .plan) (amount * t .share / 100)
 
@@ -58,7 +57,7 @@ serviceMove l b = record { value = 0; part = 0; balance = l .balance; plan = l .
 
 -- the cost of the event's Wh on its usage day
 abbrev pub eventCost : Terms → Ledger → Event → ℕ
-eventCost t l e = costOf (e .wh) (priceOn t (l .list) (e .usage))
+eventCost t l e = costIn t (l .list) e
 
 -- "An estimate takes a blank day only, and B falls by its cost."; "Value: the new cost."
 unfoldable pub estimateMove : Terms → Ledger → Event → Move
@@ -70,7 +69,7 @@ readMove t l e =
     balanceMove l (eventCost t l e)
     (l .balance +ℤ pos (estimateCost (usageDay t (l .list) (e .usage))) -ℤ pos (eventCost t l e))
 
--- "It defers D = connect − B." B is below 0, so D is above 0.
+-- "It defers D = connect − B." B is below 0, so D is above 0 and is its own magnitude.
 unfoldable pub deferred : Terms → Ledger → ℕ
 deferred t l = natAbs (pos (t .connect) -ℤ l .balance)
 
@@ -111,7 +110,7 @@ pub record Outcome : Type 0 where
 
 -- the number by which the table refuses the event; 0 where it is accepted
 unfoldable pub refusal : Terms → Ledger → Event → ℕ
-refusal t l e = lowest (refusals t l e)
+refusal t l e = firstOf (refusals t l e)
 
 abbrev pub accepts : Terms → Ledger → Event → Bool
 accepts t l e = eqb (refusal t l e) 0

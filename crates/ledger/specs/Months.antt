@@ -1,15 +1,68 @@
--- The sums of a month over L (document 01, "Month summary").
-use Prim.Native.Nat.{ℕ}
-use mathlib.Core.Bool.{cond, _&&_}
+-- The month summary over L (document 01, "Month summary").
+use Prim.Native.Nat.{ℕ, suc, _+_, _*_, _/_}
+use mathlib.Core.Bool.{Bool, true, false, cond, not, _&&_}
+use mathlib.Core.List.{List, [], _∷_}
 use lib.Dec.{eqb}
-use Rattle.calendar.specs.Calendar.{dateOn, monthFrom}
+use Rattle.calendar.specs.Calendar.{dateOn, monthFrom, total}
+use Rattle.calendar.specs.Days.{anyDay}
 use Rattle.terms.specs.declared.Terms.{Terms}
-use Rattle.ledger.specs.Event.{isCharge}
-use Rattle.ledger.specs.Entries.{Entry, Entries, sum}
+use Rattle.ledger.specs.declared.Counted.{Counted}
+use Rattle.ledger.specs.declared.Used.{Used}
+use Rattle.ledger.specs.declared.Summary.{Summary}
+use Rattle.ledger.specs.Event.{isPay, isCharge}
+use Rattle.ledger.specs.Entries.{Entry, Entries, sum, payments, reversed, UsageDay, blank, estimated, metered, usageDay, estimateCost}
 
 -- "Month m, 0 to 14, counts from the opening month": the month of day d.
 abbrev pub monthOf : Terms → ℕ → ℕ
 monthOf t d = monthFrom (t .opened) (dateOn (t .opened) d)
+
+abbrev pub inMonth : Terms → ℕ → ℕ → Bool
+inMonth t m d = eqb (monthOf t d) m
+
+-- "a month holding none of days 0 to 399 is refused with 3"
+unfoldable pub hasDays : Terms → ℕ → Bool
+hasDays t m = anyDay (inMonth t m) 400
+
+-- The sum of f over month m's payments, "by the payment's day": those for which p of their being reversed holds. A payment's number is
+-- the count of those before it.
+unfoldable pub paymentsIn : Terms → ℕ → (Bool → Bool) → (Entry → ℕ) → Entries → ℕ
+paymentsIn t m p f l =
+    sum
+    (λ (x : Entry) (before : Entries). cond (isPay (x .event) && (inMonth t m (x .event .day) && p (reversed (payments before) l))) (f x) 0)
+    l
+
+abbrev pub isReversed : Bool → Bool
+isReversed b = b
+
+-- "count and sum of payments kept, and of payments reversed"
+abbrev pub countedIn : Terms → ℕ → (Bool → Bool) → Entries → Counted
+countedIn t m p l = record { count = paymentsIn t m p (λ (x : Entry). 1) l; sum = paymentsIn t m p (λ (x : Entry). x .event .amount) l }
+
+-- The sum of f over month m's usage days: "by usage day".
+unfoldable pub usageIn : Terms → ℕ → (UsageDay → ℕ) → Entries → ℕ
+usageIn t m f l = total (λ (u : ℕ). cond (inMonth t m u) (f (usageDay t l u)) 0) 400
+
+abbrev pub meteredWh : UsageDay → ℕ
+meteredWh blank = 0
+meteredWh (estimated wh cost) = 0
+meteredWh (metered wh cost) = wh
+
+abbrev pub meteredCost : UsageDay → ℕ
+meteredCost blank = 0
+meteredCost (estimated wh cost) = 0
+meteredCost (metered wh cost) = cost
+
+abbrev pub estimatedWh : UsageDay → ℕ
+estimatedWh blank = 0
+estimatedWh (estimated wh cost) = wh
+estimatedWh (metered wh cost) = 0
+
+-- "metered Wh and cost, estimated Wh and cost"
+abbrev pub meteredIn : Terms → ℕ → Entries → Used
+meteredIn t m l = record { wh = usageIn t m meteredWh l; cost = usageIn t m meteredCost l }
+
+abbrev pub estimatedIn : Terms → ℕ → Entries → Used
+estimatedIn t m l = record { wh = usageIn t m estimatedWh l; cost = usageIn t m estimateCost l }
 
 -- "charges by kind, by event day"
 unfoldable pub chargesIn : Terms → ℕ → ℕ → Entries → ℕ
@@ -17,3 +70,42 @@ chargesIn t m kind l =
     sum
     (λ (x : Entry) (before : Entries). cond (isCharge (x .event) && (eqb (x .event .kind) kind && eqb (monthOf t (x .event .day)) m)) (x .event .amount) 0)
     l
+
+-- "((usage cost + kinds 1 and 2) × 100,000 + half the Wh rounded down) / Wh, rounded down, marked missing and 0 where Wh is 0"
+unfoldable pub averageOf : ℕ → ℕ → ℕ
+averageOf cost wh = cond (eqb wh 0) 0 ((cost * 100000 + wh / 2) / wh)
+
+-- "usage cost and Wh take both sorts together"
+abbrev pub averageIn : Terms → ℕ → Entries → ℕ
+averageIn t m l =
+    averageOf
+    (meteredIn t m l .cost + estimatedIn t m l .cost + chargesIn t m 1 l + chargesIn t m 2 l)
+    (meteredIn t m l .wh + estimatedIn t m l .wh)
+
+-- "refused with 3, every figure 0"
+abbrev pub noSummary : ℕ → Summary
+noSummary code = record {
+  code = code;
+  kept = record { count = 0; sum = 0 };
+  reversed = record { count = 0; sum = 0 };
+  metered = record { wh = 0; cost = 0 };
+  estimated = record { wh = 0; cost = 0 };
+  charges = 0 ∷ 0 ∷ 0 ∷ 0 ∷ 0 ∷ [];
+  average = 0;
+  missing = false;
+}
+
+unfoldable pub ledgerSummary : Terms → Entries → ℕ → Summary
+ledgerSummary t l m =
+    cond (hasDays t m)
+    (record {
+      code = 0;
+      kept = countedIn t m not l;
+      reversed = countedIn t m isReversed l;
+      metered = meteredIn t m l;
+      estimated = estimatedIn t m l;
+      charges = chargesIn t m 1 l ∷ chargesIn t m 2 l ∷ chargesIn t m 3 l ∷ chargesIn t m 4 l ∷ chargesIn t m 5 l ∷ [];
+      average = averageIn t m l;
+      missing = eqb (meteredIn t m l .wh + estimatedIn t m l .wh) 0;
+    })
+    (noSummary 3)

@@ -19,7 +19,7 @@ pub record Ledger : Type 0 where
   pub on : Bool
 
 -- "Kind 1, required: B ≤ −5,000, and some weather day w ≤ x has at most one business day among days w+1 to x."
--- "Kind 2, offered: B < 0." (T-07: kind 3.)
+-- "Kind 2, offered: B < 0."
 unfoldable pub planAllowed : Terms → Ledger → Event → Bool
 planAllowed t l e =
     cond (eqb (e .kind) 1)
@@ -29,12 +29,20 @@ planAllowed t l e =
 abbrev pub Rule : Type 0
 Rule = ℕ × Bool
 
--- The table, each number with when it applies, in the order in which they are looked at (T-04 exchanges 13 and 14).
+-- The day check, code 2: "x before the last accepted day, or above 399".
+abbrev pub dayRefused : Ledger → Event → Bool
+dayRefused l e = ltb (e .day) (lastDay (l .list)) || ltb 399 (e .day)
+
+-- The fullness check, code 4: "4,096 events accepted already".
+abbrev pub isFull : Ledger → Bool
+isFull l = leb 4096 (length (l .list))
+
+-- The table, each number with when it applies, in the order in which they are looked at.
 unfoldable pub refusals : Terms → Ledger → Event → List Rule
 refusals t l e =
-    (2, ltb (e .day) (lastDay (l .list)) || ltb 399 (e .day))
+    (2, dayRefused l e)
     ∷ (3, not (inLimits e))
-    ∷ (4, leb 4096 (length (l .list)))
+    ∷ (4, isFull l)
     ∷ (5, isPay e && leb 128 (payments (l .list)))
     ∷ (6, isReverse e && (leb (payments (l .list)) (e .number) || reversed (e .number) (l .list)))
     ∷ (7, (isEstimate e || isRead e) && leb (e .day) (e .usage))
@@ -47,7 +55,7 @@ refusals t l e =
     ∷ (14, isDisconnect e && barred t (e .day) (l .list))
     ∷ []
 
--- "Several apply: the lowest number of 1 to 14." 0 where none applies.
-unfoldable pub lowest : List Rule → ℕ
-lowest [] = 0
-lowest (r ∷ rs) = cond (r .1) (r .0) (lowest rs)
+-- "Several apply: the lowest number of 1 to 14": the first of the table, whose numbers ascend. 0 where none applies.
+unfoldable pub firstOf : List Rule → ℕ
+firstOf [] = 0
+firstOf (r ∷ rs) = cond (r .1) (r .0) (firstOf rs)

@@ -2,13 +2,12 @@
 use Prim.Native.Nat.{ℕ, _+_}
 use mathlib.Core.Bool.{Bool, true, false, cond, not, _&&_}
 use lib.IntN.{ℤ, pos, _-ℤ_}
-use Rattle.tariff.specs.Tariff.{costOf}
 use Rattle.terms.specs.declared.Terms.{Terms}
 use Rattle.ledger.specs.declared.Event.{Event}
 use Rattle.ledger.specs.Event.{isPay, isCredit, isCharge, isEstimate, isRead}
-use Rattle.ledger.specs.Entries.{Entry, Entries, any, sum, payments, reversed, readOn, priceOn}
+use Rattle.ledger.specs.Entries.{Entry, Entries, any, sum, payments, reversed, readOn, costIn}
 
--- "the accepted payments without an accepted reversal"
+-- "the accepted payments without an accepted reversal": a payment's number is the count of those before it
 unfoldable pub kept : Entries → ℕ
 kept l = sum (λ (x : Entry) (before : Entries). cond (isPay (x .event) && not (reversed (payments before) l)) (x .event .amount) 0) l
 
@@ -19,10 +18,6 @@ credits l = sum (λ (x : Entry) (before : Entries). cond (isCredit (x .event)) (
 -- "less accepted charges"
 unfoldable pub charges : Entries → ℕ
 charges l = sum (λ (x : Entry) (before : Entries). cond (isCharge (x .event)) (x .event .amount) 0) l
-
--- the cost of the event's Wh on its usage day
-abbrev pub costIn : Terms → Entries → Event → ℕ
-costIn t l e = costOf (e .wh) (priceOn t l (e .usage))
 
 -- "less the cost of each accepted read"
 unfoldable pub reads : Terms → Entries → ℕ

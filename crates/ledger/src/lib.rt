@@ -23,6 +23,32 @@ pub struct Answer {
     pub value: u64,
 }
 
+// A count of payments and the sum of their amounts, in cents.
+pub struct Counted {
+    pub count: u32,
+    pub sum: u64,
+}
+
+// Energy used, in Wh, and its cost, in cents.
+pub struct Used {
+    pub wh: u64,
+    pub cost: u64,
+}
+
+// A month's figures (specs/Months.antt). The code is 3 for a month that holds none of the account's days; every figure is 0 then.
+pub struct Summary {
+    pub code: u8,
+    pub kept: Counted,
+    pub reversed: Counted,
+    pub metered: Used,
+    pub estimated: Used,
+    // charge kinds 1 to 5
+    pub charges: [u64; 5],
+    // hundredths of a cent per kWh
+    pub average: u64,
+    pub missing: bool,
+}
+
 // The figures marked (P): what the ledger shows of each row is what the paper says.
 pub fn figures_hold()
     ensures { λ _. ⌜ map shown figures ≡ map (λ (f : Figure). f .expected) figures ⌝ }

@@ -13,9 +13,9 @@ use Rattle.terms.specs.Terms.{termsCode}
 use Rattle.terms.specs.declared.Terms.{Terms}
 use Rattle.ledger.specs.declared.Event.{Event}
 use Rattle.ledger.specs.Event.{isPay, isEstimate, isRead, inLimits}
-use Rattle.ledger.specs.Entries.{Entries, lastDay, payments, usageDay, estimateCost}
+use Rattle.ledger.specs.Entries.{costIn, Entries, lastDay, payments, usageDay, estimateCost}
 use Rattle.ledger.specs.Rules.{Ledger}
-use Rattle.ledger.specs.Sums.{standing, costIn}
+use Rattle.ledger.specs.Sums.{standing}
 use Rattle.ledger.specs.Months.{chargesIn}
 use Rattle.ledger.specs.Ledger.{Move, Outcome, moveOf, moved, answer, refusal, accepts, ledgerStep}
 use Rattle.ledger.proofs.Cases.{neither}

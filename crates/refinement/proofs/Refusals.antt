@@ -12,7 +12,7 @@ use Rattle.terms.specs.declared.Terms.{Terms}
 use Rattle.ledger.specs.declared.Event.{Event}
 use Rattle.ledger.specs.Event.{inLimits}
 use Rattle.ledger.specs.Entries.{lastDay, payments, reversed, warned, usageDay, isBlank, isMetered, barred}
-use Rattle.ledger.specs.Rules.{Ledger, planAllowed, refusals, lowest}
+use Rattle.ledger.specs.Rules.{Ledger, planAllowed, refusals, firstOf}
 use Rattle.ledger.specs.Ledger.{Move, Outcome, payMove, reverseMove, balanceMove, serviceMove, estimateMove, readMove, planMove, moveOf, moved, answer, refusal, ledgerStep}
 
 -- the event passes codes 2, 3 and 4
@@ -23,61 +23,61 @@ pub record Passes (l : Ledger) (e : Event) : Type 0 where
 
 module _ (t : Terms) (l : Ledger) (e : Event) where
   pub code-2 : (ltb (e .day) (lastDay (l .list)) || ltb 399 (e .day)) ≡ true → refusal t l e ≡ 2
-  unfolding refusal refusals lowest
+  unfolding refusal refusals firstOf
   code-2 h = simp h
 
   pub code-3 : (ltb (e .day) (lastDay (l .list)) || ltb 399 (e .day)) ≡ false → inLimits e ≡ false → refusal t l e ≡ 3
-  unfolding refusal refusals lowest
+  unfolding refusal refusals firstOf
   code-3 h k = simp (h, k)
 
   pub code-4 : (ltb (e .day) (lastDay (l .list)) || ltb 399 (e .day)) ≡ false → inLimits e ≡ true → leb 4096 (length (l .list)) ≡ true → refusal t l e ≡ 4
-  unfolding refusal refusals lowest
+  unfolding refusal refusals firstOf
   code-4 h k f = simp (h, k, f)
 
   module _ (s : Passes l e) where
     pub pay-code : e .sort ≡ 1 → refusal t l e ≡ cond (leb 128 (payments (l .list))) 5 0
-    unfolding refusal refusals lowest
+    unfolding refusal refusals firstOf
     pay-code k = simp (s .days, s .limits, s .room, k)
 
     pub reverse-code : e .sort ≡ 2 → refusal t l e ≡ cond (leb (payments (l .list)) (e .number) || reversed (e .number) (l .list)) 6 0
-    unfolding refusal refusals lowest
+    unfolding refusal refusals firstOf
     reverse-code k = simp (s .days, s .limits, s .room, k)
 
     pub credit-code : e .sort ≡ 3 → refusal t l e ≡ 0
-    unfolding refusal refusals lowest
+    unfolding refusal refusals firstOf
     credit-code k = simp (s .days, s .limits, s .room, k)
 
     pub charge-code : e .sort ≡ 4 → refusal t l e ≡ 0
-    unfolding refusal refusals lowest
+    unfolding refusal refusals firstOf
     charge-code k = simp (s .days, s .limits, s .room, k)
 
     pub estimate-code : e .sort ≡ 5 → refusal t l e ≡ cond (leb (e .day) (e .usage)) 7 (cond (not (isBlank (usageDay t (l .list) (e .usage)))) 8 0)
-    unfolding refusal refusals lowest
+    unfolding refusal refusals firstOf
     estimate-code k = simp (s .days, s .limits, s .room, k, or-false)
 
     pub read-code : e .sort ≡ 6 → refusal t l e ≡ cond (leb (e .day) (e .usage)) 7 (cond (isMetered (usageDay t (l .list) (e .usage))) 8 0)
-    unfolding refusal refusals lowest
+    unfolding refusal refusals firstOf
     read-code k = simp (s .days, s .limits, s .room, k)
 
     pub warn-code : e .sort ≡ 7 → refusal t l e ≡ 0
-    unfolding refusal refusals lowest
+    unfolding refusal refusals firstOf
     warn-code k = simp (s .days, s .limits, s .room, k)
 
     pub mark-code : e .sort ≡ 8 → refusal t l e ≡ 0
-    unfolding refusal refusals lowest
+    unfolding refusal refusals firstOf
     mark-code k = simp (s .days, s .limits, s .room, k)
 
     pub plan-code : e .sort ≡ 9 → refusal t l e ≡ cond (not (planAllowed t l e)) 9 (cond (ltb 0 (l .plan)) 10 0)
-    unfolding refusal refusals lowest
+    unfolding refusal refusals firstOf
     plan-code k = simp (s .days, s .limits, s .room, k)
 
     pub disconnect-code : e .sort ≡ 10
         → refusal t l e ≡ cond (not (l .on)) 11 (cond (leZ (pos (t .cutoff)) (l .balance)) 12 (cond (not (warned (e .day) (l .list))) 13 (cond (barred t (e .day) (l .list)) 14 0)))
-    unfolding refusal refusals lowest
+    unfolding refusal refusals firstOf
     disconnect-code k = simp (s .days, s .limits, s .room, k, or-false)
 
     pub connect-code : e .sort ≡ 11 → refusal t l e ≡ cond (l .on) 11 (cond (ltZ (l .balance) (pos (t .connect))) 12 0)
-    unfolding refusal refusals lowest
+    unfolding refusal refusals firstOf
     connect-code k = simp (s .days, s .limits, s .room, k)
 
   -- the step by the code

@@ -14,9 +14,9 @@ use Rattle.tariff.specs.Tariff.{costOf}
 use Rattle.terms.specs.declared.Terms.{Terms}
 use Rattle.ledger.specs.declared.Event.{Event}
 use Rattle.ledger.specs.Event.{isEstimate, isRead}
-use Rattle.ledger.specs.Entries.{Entries, any, readOn, estimateOn, lastDay, payments, priceOn, UsageDay, blank, estimated, metered, usageDay, isBlank, isMetered, estimateCost}
+use Rattle.ledger.specs.Entries.{costIn, Entries, any, readOn, estimateOn, lastDay, payments, priceOn, UsageDay, blank, estimated, metered, usageDay, isBlank, isMetered, estimateCost}
 use Rattle.ledger.specs.Rules.{Ledger}
-use Rattle.ledger.specs.Sums.{standing, costIn}
+use Rattle.ledger.specs.Sums.{standing}
 use Rattle.ledger.specs.Ledger.{Move, estimateMove, readMove, eventCost, moved, refusal, ledgerStep}
 use Rattle.ledger.proofs.Cases.{decide, neither}
 use Rattle.ledger.proofs.Money.{diff, diff-add, diff-sub}

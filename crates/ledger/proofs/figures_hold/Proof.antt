@@ -6,7 +6,7 @@ use Rattle.calendar.specs.Calendar.{monthLength, nextOf, dateOn, total, lengthA
 use Rattle.ledger.specs.Event.{inLimits}
 use Rattle.ledger.specs.Entries.{any, count, sum, find, lastDay, payments, payment, reversed, warned, priceOn, usageDay, covered, barred, business, weatherNear}
 use Rattle.calendar.specs.Days.{countDays, anyDay}
-use Rattle.ledger.specs.Rules.{planAllowed, refusals, lowest}
+use Rattle.ledger.specs.Rules.{planAllowed, refusals, firstOf}
 use Rattle.ledger.specs.Ledger.{planPart, payMove, reverseMove, estimateMove, readMove, deferred, planMove, moveOf, refusal, ledgerStep}
 use Rattle.ledger.specs.Figures.{Figure, run, shown, figures}
 use Rattle.ledger.proofs.figures_hold.Statement.{statement}
@@ -14,7 +14,7 @@ use Rattle.ledger.proofs.figures_hold.Tie as tie
 
 computed : map shown figures ≡ map (λ (f : Figure). f .expected) figures
 unfolding
-    figures shown run ledgerStep refusal refusals lowest inLimits planAllowed
+    figures shown run ledgerStep refusal refusals firstOf inLimits planAllowed
     moveOf payMove planPart reverseMove estimateMove readMove deferred planMove
     any count sum find lastDay payments payment reversed warned priceOn usageDay covered barred business countDays anyDay weatherNear
     costOf monthLength nextOf dateOn total lengthAfter daysAfter weekdayAfter weekdayOf
