@@ -112,7 +112,9 @@ fn empty(t: Terms) -> Account
             last: 0,
             on: false,
         },
-        days: [Day { usage: Usage::Blank }; 400],
+        days: [Day {
+            usage: Usage::Blank,
+        }; 400],
         marks: [0; 400],
         warned: [0; 400],
         payments: [Payment {

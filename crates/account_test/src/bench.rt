@@ -174,7 +174,15 @@ fn say_case(n: u32, p: Posted) {
     say(b"\n");
 }
 
-fn is_right(p: Posted, before: Totals, e: Event, code: u8, value: u64, balance: i64, plan: u64) -> bool {
+fn is_right(
+    p: Posted,
+    before: Totals,
+    e: Event,
+    code: u8,
+    value: u64,
+    balance: i64,
+    plan: u64,
+) -> bool {
     let a = p.account;
     let s = a.totals;
     if p.code != code {
@@ -244,7 +252,14 @@ fn say_readings(n: u32, s: Totals) {
 }
 
 // One case: the five readings.
-pub(crate) fn stands(b: Bench, balance: i64, plan: u64, settled: i64, estimates: u64, on: bool) -> Bench {
+pub(crate) fn stands(
+    b: Bench,
+    balance: i64,
+    plan: u64,
+    settled: i64,
+    estimates: u64,
+    on: bool,
+) -> Bench {
     let a = b.account;
     let s = a.totals;
     let right = reads_right(s, balance, plan, settled, estimates, on);
@@ -255,37 +270,23 @@ pub(crate) fn stands(b: Bench, balance: i64, plan: u64, settled: i64, estimates:
     next
 }
 
-// Posts the event n times.
-fn repeated(a: Account, e: Event, n: u32, code: u8) -> Outcome {
-    let mut at = a;
-    let mut right = true;
-    let mut i: u32 = 0;
-    while i < n {
-        let p = account::step(at, e);
-        at = p.account;
-        if p.code != code {
-            right = false;
-        }
-        i += 1;
-    }
-    Outcome { account: at, right }
-}
-
-// The event with i as its payment number and its usage day.
-fn numbered(e: Event, i: u32) -> Event {
+// The event; or, where each number is asked for, the event with i as its payment number and its usage day.
+fn numbered(e: Event, i: u32, each: bool) -> Event {
     let mut f = e;
-    f.number = i;
-    f.usage = i;
+    if each {
+        f.number = i;
+        f.usage = i;
+    }
     f
 }
 
-// Posts the event for each number and usage day from 0 to n - 1.
-fn swept(a: Account, e: Event, n: u32, code: u8) -> Outcome {
+// Posts the event n times, as it is or with each number from 0 to n - 1.
+fn repeated(a: Account, e: Event, n: u32, each: bool, code: u8) -> Outcome {
     let mut at = a;
     let mut right = true;
     let mut i: u32 = 0;
     while i < n {
-        let p = account::step(at, numbered(e, i));
+        let p = account::step(at, numbered(e, i, each));
         at = p.account;
         if p.code != code {
             right = false;
@@ -315,13 +316,13 @@ fn held_to(b: Bench, r: Outcome, balance: i64, plan: u64) -> Bench {
 // One case: the event n times over, each time answered by the code, and B and R after the last.
 pub(crate) fn many(b: Bench, e: Event, n: u32, code: u8, balance: i64, plan: u64) -> Bench {
     let a = b.account;
-    held_to(b, repeated(a, e, n, code), balance, plan)
+    held_to(b, repeated(a, e, n, false, code), balance, plan)
 }
 
 // One case: the event for each payment number, and usage day, from 0 to n - 1; as `many`.
 pub(crate) fn each(b: Bench, e: Event, n: u32, code: u8, balance: i64, plan: u64) -> Bench {
     let a = b.account;
-    held_to(b, swept(a, e, n, code), balance, plan)
+    held_to(b, repeated(a, e, n, true, code), balance, plan)
 }
 
 // One case: what opening an account of these terms answers. A fresh account has B and R 0 and service off.

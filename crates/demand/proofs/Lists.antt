@@ -70,16 +70,16 @@ called-is t w a l (single e) v b s (r, p, h, q) =
     alike t v b (ledgerStep t l e .ledger) (answered (ledgerStep t l e .answer)) (rw (p .account) (refinement-holds t w .again a l e s)) (h ∙ ap answered (p .answer ∙ answer-is t w a l e s)) q
 called-is t w a l (row es buffer) v b s (r, bytes, p, h, q) = decide (ltb (length buffer) (length es))
     (λ y. let account : b ≡ a = simp y at (p .account) in
-      let codes : bytes ≡ buffer = simp y at (p .codes) in
-      let own : r ≡ 16 = simp y at (p .answer) in
-      simp y (alike t v b l (written 16 buffer) (rw account s) (h ∙ ap₂ written own codes) q))
+    let codes : bytes ≡ buffer = simp y at (p .codes) in
+    let own : r ≡ 16 = simp y at (p .answer) in
+    simp y (alike t v b l (written 16 buffer) (rw account s) (h ∙ ap₂ written own codes) q))
     (λ f. let account : b ≡ accountAfter a es = simp f at (p .account) in
-      let codes : bytes ≡ codesOf a es ++ drop (length es) buffer = simp f at (p .codes) in
-      let own : r ≡ 0 = simp f at (p .answer) in
-      simp f (alike t v b (ledgerAfter t l es) (written 0 (ledgerCodes t l es ++ drop (length es) buffer))
-      (rw account (stands-after t w es a l s))
-      (h ∙ ap₂ written own (codes ∙ ap (λ (k : List ℕ). k ++ drop (length es) buffer) (codes-are t w es a l s)))
-      q))
+    let codes : bytes ≡ codesOf a es ++ drop (length es) buffer = simp f at (p .codes) in
+    let own : r ≡ 0 = simp f at (p .answer) in
+    simp f (alike t v b (ledgerAfter t l es) (written 0 (ledgerCodes t l es ++ drop (length es) buffer))
+    (rw account (stands-after t w es a l s))
+    (h ∙ ap₂ written own (codes ∙ ap (λ (k : List ℕ). k ++ drop (length es) buffer) (codes-are t w es a l s)))
+    q))
 
 -- every list of calls, from any account and ledger that agree
 runs-are : (t : Terms) → validTerms t ≡ true → (cs : List Call) (vs : List Seen) (a : Account) (l : Ledger) → Stands t a l → Runs a cs vs → vs ≡ ledgerSeen t l cs
@@ -127,12 +127,17 @@ next-of t w a l (row es buffer) s = decide (ltb (length buffer) (length es))
       stands = s;
     }))
     (λ f. let b : Stands t (accountAfter a es) (ledgerAfter t l es) = stands-after t w es a l s in
-      simp f (record {
-        account = accountAfter a es;
-        called = (0, codesOf a es ++ drop (length es) buffer, record { account = simp f; codes = simp f; answer = simp f },
-          ap (λ (k : List ℕ). written 0 (k ++ drop (length es) buffer)) (sym (codes-are t w es a l s)), reads-are t _ _ _ b);
-        stands = b;
-      }))
+    simp f (record {
+      account = accountAfter a es;
+      called = (
+        0,
+        codesOf a es ++ drop (length es) buffer,
+        record { account = simp f; codes = simp f; answer = simp f },
+        ap (λ (k : List ℕ). written 0 (k ++ drop (length es) buffer)) (sym (codes-are t w es a l s)),
+        reads-are t _ _ _ b,
+      );
+      stands = b;
+    }))
 
 runs-of : (t : Terms) → validTerms t ≡ true → (cs : List Call) (a : Account) (l : Ledger) → Stands t a l → Runs a cs (ledgerSeen t l cs)
 unfolding ledgerSeen
@@ -170,9 +175,10 @@ demand-3 t v = record {
   runs = λ cs. runs-of t v cs (fresh t) opening (refinement-holds t v .opens);
   list = λ cs. calls-are t cs opening;
   identity = identity;
-  exactly = λ es.
-    (λ h. none es .0 (adds-nothing (after t es .balance -ℤ pos (after t es .plan)) (standing t (after t es .list)) (identity es ∙ sym h)),
-    λ z. sym (+ℤ-idr (after t es .balance -ℤ pos (after t es .plan))) ∙ ap (λ (n : ℕ). after t es .balance -ℤ pos (after t es .plan) +ℤ pos n) (sym (none es .1 z)) ∙ identity es);
+  exactly = λ es. (
+    λ h. none es .0 (adds-nothing (after t es .balance -ℤ pos (after t es .plan)) (standing t (after t es .list)) (identity es ∙ sym h)),
+    λ z. sym (+ℤ-idr (after t es .balance -ℤ pos (after t es .plan))) ∙ ap (λ (n : ℕ). after t es .balance -ℤ pos (after t es .plan) +ℤ pos n) (sym (none es .1 z)) ∙ identity es,
+  );
   disconnects = λ es e k d f. disconnect-granted t (after t es) e (eqb-true (e .sort) 10 k) d f;
 }
   where

@@ -35,7 +35,7 @@ pub record Demand3 (t : Terms) : Type 0 where
   -- "equals it exactly when no usage day stands on an estimate costing more than zero"
   pub exactly : (es : List Event)
       → (after t es .balance -ℤ pos (after t es .plan) ≡ settled t (after t es .list))
-        ↔ ((u : ℕ) → estimateCost (usageDay t (after t es .list) u) ≡ 0)
+      ↔ ((u : ℕ) → estimateCost (usageDay t (after t es .list) u) ≡ 0)
   -- "A disconnect request in the list that passes the day and fullness checks is granted exactly when, just before it, service is on, the
   -- balance is below the cutoff, an accepted warning is one to seven days old, and the day is not barred."
   pub disconnects : (es : List Event) (e : Event)
@@ -43,7 +43,7 @@ pub record Demand3 (t : Terms) : Type 0 where
       → dayRefused (after t es) e ≡ false
       → isFull (after t es) ≡ false
       → (ledgerStep t (after t es) e .answer .code ≡ 0)
-        ↔ ((after t es .on ≡ true)
-          × (ltZ (after t es .balance) (pos (t .cutoff)) ≡ true)
-          × (warned (e .day) (after t es .list) ≡ true)
-          × (barred t (e .day) (after t es .list) ≡ false))
+      ↔ ((after t es .on ≡ true)
+      × (ltZ (after t es .balance) (pos (t .cutoff)) ≡ true)
+      × (warned (e .day) (after t es .list) ≡ true)
+      × (barred t (e .day) (after t es .list) ≡ false))

@@ -63,8 +63,8 @@ module _ (t : Terms) (l : Ledger) (s : Sane t l) where
       part : (x : Entry) → ((u : ℕ) → Free u x) → (b : Entries) → cond (isEstimate (x .event) && not (any (readOn (x .event .usage)) (l .list))) (costIn t (l .list) (x .event)) 0 ≡ 0
       part x a b = decide (isEstimate (x .event))
           (λ i. decide (any (readOn (x .event .usage)) (l .list))
-            (λ r. simp (i, r))
-            (λ f. simp (i, f) (a (x .event .usage) f (simp (i, eq-eqb (x .event .usage) (x .event .usage) refl)))))
+          (λ r. simp (i, r))
+          (λ f. simp (i, f) (a (x .event .usage) f (simp (i, eq-eqb (x .event .usage) (x .event .usage) refl)))))
           (λ i. simp i)
 
   pub standing-none : (standing t (l .list) ≡ 0) ↔ ((u : ℕ) → estimateCost (usageDay t (l .list) u) ≡ 0)

@@ -48,16 +48,16 @@ module _ (l : List ℕ) (bit from d : ℕ) where
   range-in : (n : ℕ) → d < length l → from ≤ d → d < from + n → getD (markRange l bit from n) d 0 ≡ or-at l bit d
   range-in zero h a b = absurd (omega arith)
   range-in (suc n) h a b = decide (eqb d (from + n))
-    (λ t. range-same n h (eqb-true d (from + n) t) ∙ ap (λ (v : ℕ). bitOr v bit) (range-out n (λ _ b′. omega (arith, eqb-true d (from + n) t))))
-    (λ f. range-other n (eqb-false d (from + n) f) ∙ range-in n h a (omega (arith, eqb-false d (from + n) f)))
+      (λ t. range-same n h (eqb-true d (from + n) t) ∙ ap (λ (v : ℕ). bitOr v bit) (range-out n (λ _ b′. omega (arith, eqb-true d (from + n) t))))
+      (λ f. range-other n (eqb-false d (from + n) f) ∙ range-in n h a (omega (arith, eqb-false d (from + n) f)))
 
 pub marked-at : (l : List ℕ) (kind from to d : ℕ) → length l ≡ 400 → to ≤ 399 → d < 400
     → getD (marked l kind from to) d 0 ≡ cond (leb from d && leb d to) (bitOr (getD l d 0) (markBit kind)) (getD l d 0)
 unfolding marked
 marked-at l kind from to d len h hd = simp (le-leb to 399 h) (decide (leb from d)
     (λ t. decide (leb d to)
-      (λ t′. simp (t, t′) (range-in l (markBit kind) from d (to + 1 - from) (omega arith) (leb-true from d t) (omega (arith, leb-true from d t, leb-true d to t′))))
-      (λ f′. simp (t, f′) (range-out l (markBit kind) from d (to + 1 - from) (λ a b. omega (arith, leb-false d to f′)))))
+    (λ t′. simp (t, t′) (range-in l (markBit kind) from d (to + 1 - from) (omega arith) (leb-true from d t) (omega (arith, leb-true from d t, leb-true d to t′))))
+    (λ f′. simp (t, f′) (range-out l (markBit kind) from d (to + 1 - from) (λ a b. omega (arith, leb-false d to f′)))))
     (λ f. simp f (range-out l (markBit kind) from d (to + 1 - from) (λ a b. omega (arith, leb-false from d f)))))
 
 -- ---- the newest warning
@@ -69,8 +69,8 @@ of-some l (suc d) zero w e a b = absurd (omega arith)
 of-some l (suc d) (suc n) w e a b = decide (eqb (getD l d 0) 1)
     (λ t. simp t)
     (λ f.
-      let ne : w ≡ d → ⊥ = λ s. eqb-false (getD l d 0) 1 f (rw s at e) in
-      simp f (of-some l d n w e (omega arith) (omega arith)))
+    let ne : w ≡ d → ⊥ = λ s. eqb-false (getD l d 0) 1 f (rw s at e) in
+    simp f (of-some l d n w e (omega arith) (omega arith)))
 
 of-none : (l : List ℕ) (d n : ℕ) → ((w : ℕ) → w < d → d ≤ w + n → getD l w 0 ≡ 1 → ⊥) → isMissing (latestOf l d n) ≡ true
 unfolding latestOf
@@ -149,8 +149,8 @@ module _ (l : List ℕ) (weather business : ℕ → Bool) (weekdayAt : ℕ → �
   unfolding nearOf anyDay
   near-all zero left h = bit 0 h ∙ sym (or-false _ ∙ on-day weather business 0 left)
   near-all (suc d) left h =
-    let w = weekdayAt (suc d) in
-    simp (bit (suc d) h, before d, left-is w left, near-all d (cond (ltb w 5) (left - 1) left) (omega arith)) (sym (near-more weather business (ltb w 5) d left (days (suc d))))
+      let w = weekdayAt (suc d) in
+      simp (bit (suc d) h, before d, left-is w left, near-all d (cond (ltb w 5) (left - 1) left) (omega arith)) (sym (near-more weather business (ltb w 5) d left (days (suc d))))
 
   pub near-is : (x : ℕ) → x ≤ 399 → weatherNear l (weekdayAt x) x ≡ anyNear weather business x
   unfolding weatherNear

@@ -138,4 +138,3 @@ pub fn weather_near(marks: &[u8; 400], weekday: u32, day: u32) -> bool
         d -= 1;
     }
 }
-

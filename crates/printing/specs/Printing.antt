@@ -1,5 +1,6 @@
 -- Numbers and words as bytes, and where they are put in a lent buffer.
 use Prim.Native.Nat.{ℕ, zero, suc, _+_, _/_, _%_}
+use mathlib.Core.Path.{_≡_}
 use mathlib.Core.Bool.{Bool, true, false, cond}
 use mathlib.Core.List.{List, [], _∷_, _++_}
 use lib.ListN.{length, take, drop}
@@ -24,8 +25,16 @@ signed (negsuc n) = 45 ∷ decimal (suc n)
 unfoldable pub fits : List ℕ → ℕ → List ℕ → Bool
 fits buffer at bytes = leb (at + length bytes) (length buffer)
 
+unfoldable pub over : List ℕ → ℕ → List ℕ → List ℕ
+over buffer at bytes = take at buffer ++ (bytes ++ drop (at + length bytes) buffer)
+
 unfoldable pub put : List ℕ → ℕ → List ℕ → List ℕ
-put buffer at bytes = cond (fits buffer at bytes) (take at buffer ++ (bytes ++ drop (at + length bytes) buffer)) buffer
+put buffer at bytes = cond (fits buffer at bytes) (over buffer at bytes) buffer
 
 unfoldable pub past : List ℕ → ℕ → List ℕ → ℕ
 past buffer at bytes = cond (fits buffer at bytes) (at + length bytes) at
+
+-- What a putting call leaves: the buffer and the place after the bytes.
+pub record Puts (before : List ℕ) (at : ℕ) (bytes after : List ℕ) (r : ℕ) : Type 0 where
+  pub buffer : after ≡ put before at bytes
+  pub next : r ≡ past before at bytes

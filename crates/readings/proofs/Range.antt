@@ -17,8 +17,8 @@ unsigned n h = toZ-ofZ w64 (pos n) (record { sfits = omega arith })
 pub diff-fits : (c d : ℕ) → c ≤ 4611686018427387904 → d ≤ 4611686018427387904 → SFits w64 (diff c d)
 diff-fits c d h k = record {
   sfits = by-sign c d
-    (λ g. rw (diff-high c d g) (omega arith))
-    (λ g. rw (diff-below c d g) (omega arith));
+      (λ g. rw (diff-high c d g) (omega arith))
+      (λ g. rw (diff-below c d g) (omega arith));
 }
 
 -- what the machine reads back from a signed number's bits

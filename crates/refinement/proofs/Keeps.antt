@@ -56,10 +56,10 @@ module _ (t : Terms) (e : Event) (p : ℕ) (l : Entries) (h : inLimits e ≡ tru
   pub held-keep : t .price ≤ 99999 → ((u : ℕ) → costHeld (usageOf (usageDay t l u)) ≤ 10000000) → (u : ℕ) → costHeld (usageOf (usageDay t (F.more e p l) u)) ≤ 10000000
   held-keep q k u = decide (readOn u e)
       (λ y. let b = both (isRead e) (eqb (e .usage) u) y in
-        subst (λ (v : ℕ). costHeld (usageOf (usageDay t (F.more e p l) v)) ≤ 10000000) (eqb-true (e .usage) u (b .1)) (rw (F.usage-metered e p l t (b .0)) (omega arith)))
+      subst (λ (v : ℕ). costHeld (usageOf (usageDay t (F.more e p l) v)) ≤ 10000000) (eqb-true (e .usage) u (b .1)) (rw (F.usage-metered e p l t (b .0)) (omega arith)))
       (λ f. decide (estimateOn u e)
-        (λ y. estimate-held q u y)
-        (λ g. rw (F.usage-same e p l t u g f) (k u)))
+      (λ y. estimate-held q u y)
+      (λ g. rw (F.usage-same e p l t u g f) (k u)))
 
 -- ---- the record's fields that the event leaves
 module _ (t : Terms) (a : Account) (e : Event) (p : ℕ) (l : Entries) (k : Kept t a l) where
@@ -84,7 +84,7 @@ module _ (t : Terms) (a : Account) (e : Event) (p : ℕ) (l : Entries) (k : Kept
   pub warned-set : isWarn e ≡ true → length (a .warned) ≡ 400 → e .day < 400 → (d : ℕ) → d < 400 → getD (set (a .warned) (e .day) 1) d 0 ≡ cond (warnedOn d (F.more e p l)) 1 0
   warned-set y s x d h = decide (eqb (e .day) d)
       (λ q. subst (λ (v : ℕ). getD (set (a .warned) (e .day) 1) v 0 ≡ cond (warnedOn v (F.more e p l)) 1 0) (eqb-true (e .day) d q)
-        (rw (F.warned-new e p l y, getD-set-same (a .warned) (e .day) 1 0 (rw s x))))
+      (rw (F.warned-new e p l y, getD-set-same (a .warned) (e .day) 1 0 (rw s x))))
       (λ q. rw (F.warned-same e p l d (rw q (and-false (isWarn e))), getD-set-other (a .warned) (e .day) d 1 0 (λ z. eqb-false (e .day) d q (sym z))) (k .warned d h))
 
   pub marks-set : isMark e ≡ true → length (a .marks) ≡ 400 → 1 ≤ e .kind → e .kind ≤ 3 → e .to ≤ 399 → (d : ℕ) → d < 400
@@ -105,11 +105,11 @@ module _ (t : Terms) (a : Account) (e : Event) (p : ℕ) (l : Entries) (k : Kept
       rw (F.charges-more e p l t m (suc i))
       (decide (eqb (e .kind) (suc i) && eqb (monthOf t (e .day)) m)
       (λ q. let b = both (eqb (e .kind) (suc i)) (eqb (monthOf t (e .day)) m) q in
-        let here : 5 * m + i ≡ at = omega (arith, on, eqb-true (e .kind) (suc i) (b .0), eqb-true (monthOf t (e .day)) m (b .1)) in
-        simp (y, q) (ap (λ (v : ℕ). getD (set (a .charges) at now) v 0) here
-        ∙ getD-set-same (a .charges) at now 0 (omega arith)
-        ∙ ap (λ (v : ℕ). getD (a .charges) v 0 + e .amount) (sym here)
-        ∙ ap (λ (v : ℕ). v + e .amount) (k .charges m i h g)))
+      let here : 5 * m + i ≡ at = omega (arith, on, eqb-true (e .kind) (suc i) (b .0), eqb-true (monthOf t (e .day)) m (b .1)) in
+      simp (y, q) (ap (λ (v : ℕ). getD (set (a .charges) at now) v 0) here
+      ∙ getD-set-same (a .charges) at now 0 (omega arith)
+      ∙ ap (λ (v : ℕ). getD (a .charges) v 0 + e .amount) (sym here)
+      ∙ ap (λ (v : ℕ). v + e .amount) (k .charges m i h g)))
       (λ q. simp (y, q) (getD-set-other (a .charges) at (5 * m + i) now 0 (λ z. elsewhere q z) ∙ k .charges m i h g ∙ omega arith)))
     where
       elsewhere : (eqb (e .kind) (suc i) && eqb (monthOf t (e .day)) m) ≡ false → 5 * m + i ≡ 5 * monthOn (t .opened) (e .day) + (e .kind - 1) → ⊥
@@ -124,9 +124,9 @@ module _ (t : Terms) (a : Account) (e : Event) (p : ℕ) (l : Entries) (k : Kept
       → getD (set (a .days) (e .usage) (record { usage = usageOf s })) u blankDay .usage ≡ usageOf (usageDay t (F.more e p l) u)
   days-set s n x y u h = decide (eqb (e .usage) u)
       (λ q. subst (λ (v : ℕ). getD (set (a .days) (e .usage) (record { usage = usageOf s })) v blankDay .usage ≡ usageOf (usageDay t (F.more e p l) v)) (eqb-true (e .usage) u q)
-        (ap (λ (d : Day). d .usage) (getD-set-same (a .days) (e .usage) (record { usage = usageOf s }) blankDay (rw n x)) ∙ ap usageOf (sym y)))
+      (ap (λ (d : Day). d .usage) (getD-set-same (a .days) (e .usage) (record { usage = usageOf s }) blankDay (rw n x)) ∙ ap usageOf (sym y)))
       (λ q. ap (λ (d : Day). d .usage) (getD-set-other (a .days) (e .usage) u (record { usage = usageOf s }) blankDay (λ z. eqb-false (e .usage) u q (sym z)))
-        ∙ k .days u h ∙ ap usageOf (sym (F.usage-same e p l t u (rw q (and-false (isEstimate e))) (rw q (and-false (isRead e))))))
+      ∙ k .days u h ∙ ap usageOf (sym (F.usage-same e p l t u (rw q (and-false (isEstimate e))) (rw q (and-false (isRead e))))))
 
   -- a new payment
   pub payments-set : isPay e ≡ true → isReverse e ≡ false → length (a .payments) ≡ 128 → payments l < 128 → reversed (payments l) l ≡ false
@@ -134,10 +134,10 @@ module _ (t : Terms) (a : Account) (e : Event) (p : ℕ) (l : Entries) (k : Kept
       → getD (set (a .payments) (payments l) (record { day = e .day; amount = e .amount; part = p; reversed = false })) n noPayment ≡ paymentOf n (F.more e p l)
   payments-set y f s x r n h = decide (eqb (payments l) n)
       (λ q. subst (λ (v : ℕ). getD (set (a .payments) (payments l) new) v noPayment ≡ paymentOf v (F.more e p l)) (eqb-true (payments l) n q)
-        (getD-set-same (a .payments) (payments l) new noPayment (rw s x) ∙ rw (F.payment-new e p l y, F.reversed-same e p l (payments l) (rw f), r)))
+      (getD-set-same (a .payments) (payments l) new noPayment (rw s x) ∙ rw (F.payment-new e p l y, F.reversed-same e p l (payments l) (rw f), r)))
       (λ q. let old : payments l ≡ n → ⊥ = eqb-false (payments l) n q in
-        getD-set-other (a .payments) (payments l) n new noPayment (λ z. old (sym z))
-        ∙ rw (F.payment-old e p l n old, F.reversed-same e p l n (rw f)) (k .payments n (omega (arith, h, F.payments-one e p l y))))
+      getD-set-other (a .payments) (payments l) n new noPayment (λ z. old (sym z))
+      ∙ rw (F.payment-old e p l n old, F.reversed-same e p l n (rw f)) (k .payments n (omega (arith, h, F.payments-one e p l y))))
     where
       new : Payment
       new = record { day = e .day; amount = e .amount; part = p; reversed = false }
@@ -146,12 +146,12 @@ module _ (t : Terms) (a : Account) (e : Event) (p : ℕ) (l : Entries) (k : Kept
   pub payments-reverse : isReverse e ≡ true → isPay e ≡ false → length (a .payments) ≡ 128 → payments l ≤ 128 → e .number < payments l
       → (n : ℕ) → n < payments (F.more e p l)
       → getD (set (a .payments) (e .number) (record { day = payment (e .number) l .event .day; amount = payment (e .number) l .event .amount; part = payment (e .number) l .part; reversed = true })) n noPayment
-        ≡ paymentOf n (F.more e p l)
+      ≡ paymentOf n (F.more e p l)
   payments-reverse y f s x r n h = decide (eqb (e .number) n)
       (λ q. subst (λ (v : ℕ). getD (set (a .payments) (e .number) new) v noPayment ≡ paymentOf v (F.more e p l)) (eqb-true (e .number) n q)
-        (getD-set-same (a .payments) (e .number) new noPayment (omega arith) ∙ rw (F.payment-same e p l (e .number) f, F.reversed-new e p l y)))
+      (getD-set-same (a .payments) (e .number) new noPayment (omega arith) ∙ rw (F.payment-same e p l (e .number) f, F.reversed-new e p l y)))
       (λ q. getD-set-other (a .payments) (e .number) n new noPayment (λ z. eqb-false (e .number) n q (sym z))
-        ∙ rw (F.payment-same e p l n f, F.reversed-same e p l n (rw q (and-false (isReverse e)))) (k .payments n (rw (F.payments-same e p l f) at h)))
+      ∙ rw (F.payment-same e p l n f, F.reversed-same e p l n (rw q (and-false (isReverse e)))) (k .payments n (rw (F.payments-same e p l f) at h)))
     where
       new : Payment
       new = record { day = payment (e .number) l .event .day; amount = payment (e .number) l .event .amount; part = payment (e .number) l .part; reversed = true }

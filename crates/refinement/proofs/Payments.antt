@@ -49,22 +49,22 @@ module _ (t : Terms) (a : Account) (l : Ledger) (e : Event) (g : Agree t a l) (s
   unfolding payOf payMove lastDay
   pay-same k = decide (leb 128 (payments (l .list)))
       (λ y. let y′ : leb 128 (a .totals .count) ≡ true = rw (g .sums .count) y in
-        simp y′ (refused-same t a l g e 5 (pay-code t l e h k ∙ simp y) refl))
+      simp y′ (refused-same t a l g e 5 (pay-code t l e h k ∙ simp y) refl))
       (λ f. let f′ : leb 128 (a .totals .count) ≡ false = rw (g .sums .count) f in
-        let z : refusal t l e ≡ 0 = pay-code t l e h k ∙ simp f in
-        let p : ℕ = planPart t l (e .amount) in
-        let limit = amount-limits e (inl k) (h .limits) in
-        simp f′ (rw (takes t l e (payMove t l e) z (pay-move t l e k))
-        (record {
-          code = refl;
-          value = g .sums .count;
-          again = agreed t a l g e h s z _ (payMove t l e) (g .terms)
+      let z : refusal t l e ≡ 0 = pay-code t l e h k ∙ simp f in
+      let p : ℕ = planPart t l (e .amount) in
+      let limit = amount-limits e (inl k) (h .limits) in
+      simp f′ (rw (takes t l e (payMove t l e) z (pay-move t l e k))
+      (record {
+        code = refl;
+        value = g .sums .count;
+        again = agreed t a l g e h s z _ (payMove t l e) (g .terms)
             (record {
               events = omega (arith, g .sums .events);
               last = refl;
               balance = ap (λ (z : ℤ). z +ℤ pos (e .amount - p)) (g .sums .balance)
-                ∙ diff-add (a .totals .credit) (a .totals .debit) (e .amount - p)
-                ∙ ap (λ (q : ℕ). diff (a .totals .credit + (e .amount - q)) (a .totals .debit)) (sym part-is);
+                  ∙ diff-add (a .totals .credit) (a .totals .debit) (e .amount - p)
+                  ∙ ap (λ (q : ℕ). diff (a .totals .credit + (e .amount - q)) (a .totals .debit)) (sym part-is);
               plan = ap (λ (q : ℕ). a .totals .plan - q) part-is ∙ ap (λ (r : ℕ). r - p) (g .sums .plan);
               on = g .sums .on;
               standing = g .sums .standing ∙ standing-still t a l g e h s z p (rw k refl) (rw k refl);
@@ -84,7 +84,7 @@ module _ (t : Terms) (a : Account) (l : Ledger) (e : Event) (g : Agree t a l) (s
             (marks-stay t a e p (l .list) (g .kept) (rw k refl))
             (warned-stay t a e p (l .list) (g .kept) (rw k refl))
             (charges-stay t a e p (l .list) (g .kept) (rw k refl));
-        })))
+      })))
 
   -- the payment that is reversed, as both have it
   payment-is : e .number < payments (l .list) → paymentAt a e ≡ paymentOf (e .number) (l .list)
@@ -105,43 +105,43 @@ module _ (t : Terms) (a : Account) (l : Ledger) (e : Event) (g : Agree t a l) (s
         code = refl;
         value = refl;
         again = agreed t a l g e h s z _ (reverseMove l e) (g .terms)
-          (record {
-            events = omega (arith, g .sums .events);
-            last = refl;
-            balance = ap (λ (x : ℤ). x -ℤ pos back) (g .sums .balance)
-              ∙ diff-sub (a .totals .credit) (a .totals .debit) back
-              ∙ ap (λ (x : Payment). diff (a .totals .credit) (a .totals .debit + (x .amount - x .part))) (sym q);
-            plan = ap (λ (x : Payment). a .totals .plan + x .part) q ∙ ap (λ (x : ℕ). x + old .part) (g .sums .plan);
-            on = g .sums .on;
-            standing = g .sums .standing ∙ standing-still t a l g e h s z 0 (rw k refl) (rw k refl);
-            count = g .sums .count ∙ sym (payments-same e 0 (l .list) (rw k refl));
-          })
-          (record {
-            full = room;
-            count = g .bounds .count;
-            credit = omega (arith, g .bounds .credit);
-            debit = omega (arith, g .bounds .debit, ap (λ (x : Payment). x .amount) q, g .kept .amounts (e .number));
-            plan = omega (arith, g .bounds .plan, ap (λ (x : Payment). x .part) q, g .kept .amounts (e .number), s .parts (e .number));
-            standing = omega (arith, g .bounds .standing);
-          })
-          (record { payments = simp length-set (g .sizes .payments); days = g .sizes .days; marks = g .sizes .marks; warned = g .sizes .warned; charges = g .sizes .charges })
-          (rw q (payments-reverse t a e 0 (l .list) (g .kept) (rw k refl) (rw k refl) (g .sizes .payments) (omega (arith, g .bounds .count, g .sums .count)) y))
-          (days-stay t a e 0 (l .list) (g .kept) (rw k refl) (rw k refl))
-          (marks-stay t a e 0 (l .list) (g .kept) (rw k refl))
-          (warned-stay t a e 0 (l .list) (g .kept) (rw k refl))
-          (charges-stay t a e 0 (l .list) (g .kept) (rw k refl));
+            (record {
+              events = omega (arith, g .sums .events);
+              last = refl;
+              balance = ap (λ (x : ℤ). x -ℤ pos back) (g .sums .balance)
+                  ∙ diff-sub (a .totals .credit) (a .totals .debit) back
+                  ∙ ap (λ (x : Payment). diff (a .totals .credit) (a .totals .debit + (x .amount - x .part))) (sym q);
+              plan = ap (λ (x : Payment). a .totals .plan + x .part) q ∙ ap (λ (x : ℕ). x + old .part) (g .sums .plan);
+              on = g .sums .on;
+              standing = g .sums .standing ∙ standing-still t a l g e h s z 0 (rw k refl) (rw k refl);
+              count = g .sums .count ∙ sym (payments-same e 0 (l .list) (rw k refl));
+            })
+            (record {
+              full = room;
+              count = g .bounds .count;
+              credit = omega (arith, g .bounds .credit);
+              debit = omega (arith, g .bounds .debit, ap (λ (x : Payment). x .amount) q, g .kept .amounts (e .number));
+              plan = omega (arith, g .bounds .plan, ap (λ (x : Payment). x .part) q, g .kept .amounts (e .number), s .parts (e .number));
+              standing = omega (arith, g .bounds .standing);
+            })
+            (record { payments = simp length-set (g .sizes .payments); days = g .sizes .days; marks = g .sizes .marks; warned = g .sizes .warned; charges = g .sizes .charges })
+            (rw q (payments-reverse t a e 0 (l .list) (g .kept) (rw k refl) (rw k refl) (g .sizes .payments) (omega (arith, g .bounds .count, g .sums .count)) y))
+            (days-stay t a e 0 (l .list) (g .kept) (rw k refl) (rw k refl))
+            (marks-stay t a e 0 (l .list) (g .kept) (rw k refl))
+            (warned-stay t a e 0 (l .list) (g .kept) (rw k refl))
+            (charges-stay t a e 0 (l .list) (g .kept) (rw k refl));
       }))
 
   pub reverse-same : e .sort ≡ 2 → Same t (reverseOf a e) (ledgerStep t l e)
   unfolding reverseOf
   reverse-same k = decide (leb (payments (l .list)) (e .number))
       (λ y. let y′ : leb (a .totals .count) (e .number) ≡ true = rw (g .sums .count) y in
-        simp y′ (refused-same t a l g e 6 (reverse-code t l e h k ∙ simp y) refl))
+      simp y′ (refused-same t a l g e 6 (reverse-code t l e h k ∙ simp y) refl))
       (λ f. decide (reversed (e .number) (l .list))
-        (λ r. let f′ : leb (a .totals .count) (e .number) ≡ false = rw (g .sums .count) f in
-          let r′ : paymentAt a e .reversed ≡ true = ap (λ (x : Payment). x .reversed) (payment-is (leb-false (payments (l .list)) (e .number) f)) ∙ r in
-          simp (f′, r′) (refused-same t a l g e 6 (reverse-code t l e h k ∙ simp (f, r)) refl))
-        (λ r. reversing-same k f r))
+      (λ r. let f′ : leb (a .totals .count) (e .number) ≡ false = rw (g .sums .count) f in
+      let r′ : paymentAt a e .reversed ≡ true = ap (λ (x : Payment). x .reversed) (payment-is (leb-false (payments (l .list)) (e .number) f)) ∙ r in
+      simp (f′, r′) (refused-same t a l g e 6 (reverse-code t l e h k ∙ simp (f, r)) refl))
+      (λ r. reversing-same k f r))
 
   pub credit-same : e .sort ≡ 3 → Same t (creditOf a e) (ledgerStep t l e)
   unfolding creditOf lastDay
@@ -153,29 +153,29 @@ module _ (t : Terms) (a : Account) (l : Ledger) (e : Event) (g : Agree t a l) (s
         code = refl;
         value = refl;
         again = agreed t a l g e h s z _ (balanceMove l 0 (l .balance +ℤ pos (e .amount))) (g .terms)
-          (record {
-            events = omega (arith, g .sums .events);
-            last = refl;
-            balance = ap (λ (x : ℤ). x +ℤ pos (e .amount)) (g .sums .balance) ∙ diff-add (a .totals .credit) (a .totals .debit) (e .amount);
-            plan = g .sums .plan;
-            on = g .sums .on;
-            standing = g .sums .standing ∙ standing-still t a l g e h s z 0 (rw k refl) (rw k refl);
-            count = g .sums .count ∙ sym (payments-same e 0 (l .list) (rw k refl));
-          })
-          (record {
-            full = room;
-            count = g .bounds .count;
-            credit = omega (arith, g .bounds .credit, limit .most);
-            debit = omega (arith, g .bounds .debit);
-            plan = omega (arith, g .bounds .plan);
-            standing = omega (arith, g .bounds .standing);
-          })
-          (record { payments = g .sizes .payments; days = g .sizes .days; marks = g .sizes .marks; warned = g .sizes .warned; charges = g .sizes .charges })
-          (payments-stay t a e 0 (l .list) (g .kept) (rw k refl) (rw k refl))
-          (days-stay t a e 0 (l .list) (g .kept) (rw k refl) (rw k refl))
-          (marks-stay t a e 0 (l .list) (g .kept) (rw k refl))
-          (warned-stay t a e 0 (l .list) (g .kept) (rw k refl))
-          (charges-stay t a e 0 (l .list) (g .kept) (rw k refl));
+            (record {
+              events = omega (arith, g .sums .events);
+              last = refl;
+              balance = ap (λ (x : ℤ). x +ℤ pos (e .amount)) (g .sums .balance) ∙ diff-add (a .totals .credit) (a .totals .debit) (e .amount);
+              plan = g .sums .plan;
+              on = g .sums .on;
+              standing = g .sums .standing ∙ standing-still t a l g e h s z 0 (rw k refl) (rw k refl);
+              count = g .sums .count ∙ sym (payments-same e 0 (l .list) (rw k refl));
+            })
+            (record {
+              full = room;
+              count = g .bounds .count;
+              credit = omega (arith, g .bounds .credit, limit .most);
+              debit = omega (arith, g .bounds .debit);
+              plan = omega (arith, g .bounds .plan);
+              standing = omega (arith, g .bounds .standing);
+            })
+            (record { payments = g .sizes .payments; days = g .sizes .days; marks = g .sizes .marks; warned = g .sizes .warned; charges = g .sizes .charges })
+            (payments-stay t a e 0 (l .list) (g .kept) (rw k refl) (rw k refl))
+            (days-stay t a e 0 (l .list) (g .kept) (rw k refl) (rw k refl))
+            (marks-stay t a e 0 (l .list) (g .kept) (rw k refl))
+            (warned-stay t a e 0 (l .list) (g .kept) (rw k refl))
+            (charges-stay t a e 0 (l .list) (g .kept) (rw k refl));
       })
 
   -- the event's day has a month
@@ -201,27 +201,27 @@ module _ (t : Terms) (a : Account) (l : Ledger) (e : Event) (g : Agree t a l) (s
         code = refl;
         value = refl;
         again = agreed t a l g e h s z _ (balanceMove l 0 (l .balance -ℤ pos (e .amount))) (g .terms)
-          (record {
-            events = omega (arith, g .sums .events);
-            last = refl;
-            balance = ap (λ (x : ℤ). x -ℤ pos (e .amount)) (g .sums .balance) ∙ diff-sub (a .totals .credit) (a .totals .debit) (e .amount);
-            plan = g .sums .plan;
-            on = g .sums .on;
-            standing = g .sums .standing ∙ standing-still t a l g e h s z 0 (rw k refl) (rw k refl);
-            count = g .sums .count ∙ sym (payments-same e 0 (l .list) (rw k refl));
-          })
-          (record {
-            full = room;
-            count = g .bounds .count;
-            credit = omega (arith, g .bounds .credit);
-            debit = omega (arith, g .bounds .debit, limit .amount .most);
-            plan = omega (arith, g .bounds .plan);
-            standing = omega (arith, g .bounds .standing);
-          })
-          (record { payments = g .sizes .payments; days = g .sizes .days; marks = g .sizes .marks; warned = g .sizes .warned; charges = simp length-set (g .sizes .charges) })
-          (payments-stay t a e 0 (l .list) (g .kept) (rw k refl) (rw k refl))
-          (days-stay t a e 0 (l .list) (g .kept) (rw k refl) (rw k refl))
-          (marks-stay t a e 0 (l .list) (g .kept) (rw k refl))
-          (warned-stay t a e 0 (l .list) (g .kept) (rw k refl))
-          (rw (g .terms) (charges-set t a e 0 (l .list) (g .kept) (rw k refl) (g .sizes .charges) month-is month (limit .kind .least) (limit .kind .most)));
+            (record {
+              events = omega (arith, g .sums .events);
+              last = refl;
+              balance = ap (λ (x : ℤ). x -ℤ pos (e .amount)) (g .sums .balance) ∙ diff-sub (a .totals .credit) (a .totals .debit) (e .amount);
+              plan = g .sums .plan;
+              on = g .sums .on;
+              standing = g .sums .standing ∙ standing-still t a l g e h s z 0 (rw k refl) (rw k refl);
+              count = g .sums .count ∙ sym (payments-same e 0 (l .list) (rw k refl));
+            })
+            (record {
+              full = room;
+              count = g .bounds .count;
+              credit = omega (arith, g .bounds .credit);
+              debit = omega (arith, g .bounds .debit, limit .amount .most);
+              plan = omega (arith, g .bounds .plan);
+              standing = omega (arith, g .bounds .standing);
+            })
+            (record { payments = g .sizes .payments; days = g .sizes .days; marks = g .sizes .marks; warned = g .sizes .warned; charges = simp length-set (g .sizes .charges) })
+            (payments-stay t a e 0 (l .list) (g .kept) (rw k refl) (rw k refl))
+            (days-stay t a e 0 (l .list) (g .kept) (rw k refl) (rw k refl))
+            (marks-stay t a e 0 (l .list) (g .kept) (rw k refl))
+            (warned-stay t a e 0 (l .list) (g .kept) (rw k refl))
+            (rw (g .terms) (charges-set t a e 0 (l .list) (g .kept) (rw k refl) (g .sizes .charges) month-is month (limit .kind .least) (limit .kind .most)));
       }))

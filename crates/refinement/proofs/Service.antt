@@ -50,8 +50,8 @@ unfolding warnedOn warned any
 warned-by x w [] y lo hi = y
 warned-by x w (n ∷ l) y lo hi = decide (isWarn (n .event) && eqb (n .event .day) w)
     (λ q. let b = both (isWarn (n .event)) (eqb (n .event .day) w) q in
-      let d : n .event .day ≡ w = eqb-true (n .event .day) w (b .1) in
-      simp (b .0, le-leb (n .event .day + 1) x (omega arith), le-leb x (n .event .day + 7) (omega arith)))
+    let d : n .event .day ≡ w = eqb-true (n .event .day) w (b .1) in
+    simp (b .0, le-leb (n .event .day + 1) x (omega arith), le-leb x (n .event .day + 7) (omega arith)))
     (λ f. simp (warned-by x w l (simp f at y) lo hi, or-true))
 
 -- the day of such a warning
@@ -66,13 +66,13 @@ unfolding warnedOn warned any
 warned-day x [] y = absurd (true≢false (sym y))
 warned-day x (n ∷ l) y = decide (isWarn (n .event) && (leb (n .event .day + 1) x && leb x (n .event .day + 7)))
     (λ q. let b = both (isWarn (n .event)) _ q in
-      let c = both (leb (n .event .day + 1) x) (leb x (n .event .day + 7)) (b .1) in
-      record {
-        day = n .event .day;
-        on = simp (b .0, eq-eqb (n .event .day) (n .event .day) refl);
-        before = omega (arith, leb-true (n .event .day + 1) x (c .0));
-        after = leb-true x (n .event .day + 7) (c .1);
-      })
+    let c = both (leb (n .event .day + 1) x) (leb x (n .event .day + 7)) (b .1) in
+    record {
+      day = n .event .day;
+      on = simp (b .0, eq-eqb (n .event .day) (n .event .day) refl);
+      before = omega (arith, leb-true (n .event .day + 1) x (c .0));
+      after = leb-true x (n .event .day + 7) (c .1);
+    })
     (λ f. let d = warned-day x l (simp f at y) in record { day = d .day; on = simp (d .on, or-true); before = d .before; after = d .after })
 
 module _ (t : Terms) (a : Account) (l : Ledger) (e : Event) (g : Agree t a l) (s : Sane t l) (h : Passes l e) where
@@ -86,9 +86,9 @@ module _ (t : Terms) (a : Account) (l : Ledger) (e : Event) (g : Agree t a l) (s
   warning-is : isMissing (latestWarning (a .warned) (e .day)) ≡ not (warned (e .day) (l .list))
   warning-is = decide (warned (e .day) (l .list))
       (λ y. let d = warned-day (e .day) (l .list) y in
-        rw y (latest-some (a .warned) (e .day) (d .day) day (g .kept .warned (d .day) (omega (arith, d .before, day)) ∙ simp (d .on)) (d .before) (d .after)))
+      rw y (latest-some (a .warned) (e .day) (d .day) day (g .kept .warned (d .day) (omega (arith, d .before, day)) ∙ simp (d .on)) (d .before) (d .after)))
       (λ f. rw f (latest-none (a .warned) (e .day) day
-        (λ w lo hi y. true≢false (sym (warned-by (e .day) w (l .list) (one-true (warnedOn w (l .list)) (sym (g .kept .warned w (omega (arith, lo, day))) ∙ y)) lo hi) ∙ f))))
+      (λ w lo hi y. true≢false (sym (warned-by (e .day) w (l .list) (one-true (warnedOn w (l .list)) (sym (g .kept .warned w (omega (arith, lo, day))) ∙ y)) lo hi) ∙ f))))
 
   -- the event's day has a weekday
   weekday-is : weekdayOn (a .terms .opened) (e .day) ≡ weekday t (e .day)
@@ -116,7 +116,7 @@ module _ (t : Terms) (a : Account) (l : Ledger) (e : Event) (g : Agree t a l) (s
       ∙ sym (ap (λ (b : ℤ). cond (eqb (e .kind) 1) (leZ b (negℤ (pos 5000)) && weatherNear t (l .list) (e .day)) (ltZ b (pos 0))) (g .sums .balance)
       ∙ ap (λ (z : Bool). cond (eqb (e .kind) 1) (z && weatherNear t (l .list) (e .day)) (ltZ (diff (a .totals .credit) (a .totals .debit)) (pos 0))) (diff-low (a .totals .credit) (a .totals .debit) 4999)
       ∙ ap (λ (z : Bool). cond (eqb (e .kind) 1) (leb (a .totals .credit + 5000) (a .totals .debit) && weatherNear t (l .list) (e .day)) z)
-        (diff-lt (a .totals .credit) (a .totals .debit) 0 ∙ ap (λ (n : ℕ). ltb (a .totals .credit) n) (add-zero (a .totals .debit))))
+      (diff-lt (a .totals .credit) (a .totals .debit) 0 ∙ ap (λ (n : ℕ). ltb (a .totals .credit) n) (add-zero (a .totals .debit))))
 
   -- the totals of an event that moves no sum
   still-sums : (b c : Bool) → b ≡ c → refusal t l e ≡ 0 → isPay e ≡ false → isRead e ≡ false → isEstimate e ≡ false → Sums t (head.serves (tallied (a .totals) (e .day)) b) (moved l e (serviceMove l c))
@@ -154,12 +154,12 @@ module _ (t : Terms) (a : Account) (l : Ledger) (e : Event) (g : Agree t a l) (s
         code = refl;
         value = refl;
         again = agreed t a l g e h s z _ (serviceMove l (l .on)) (g .terms) (on-is z (rw k refl) (rw k refl) (rw k refl)) (still-bounds (a .totals .on))
-          (record { payments = g .sizes .payments; days = g .sizes .days; marks = g .sizes .marks; warned = simp length-set (g .sizes .warned); charges = g .sizes .charges })
-          (payments-stay t a e 0 (l .list) (g .kept) (rw k refl) (rw k refl))
-          (days-stay t a e 0 (l .list) (g .kept) (rw k refl) (rw k refl))
-          (marks-stay t a e 0 (l .list) (g .kept) (rw k refl))
-          (warned-set t a e 0 (l .list) (g .kept) (rw k refl) (g .sizes .warned) (omega (arith, day)))
-          (charges-stay t a e 0 (l .list) (g .kept) (rw k refl));
+            (record { payments = g .sizes .payments; days = g .sizes .days; marks = g .sizes .marks; warned = simp length-set (g .sizes .warned); charges = g .sizes .charges })
+            (payments-stay t a e 0 (l .list) (g .kept) (rw k refl) (rw k refl))
+            (days-stay t a e 0 (l .list) (g .kept) (rw k refl) (rw k refl))
+            (marks-stay t a e 0 (l .list) (g .kept) (rw k refl))
+            (warned-set t a e 0 (l .list) (g .kept) (rw k refl) (g .sizes .warned) (omega (arith, day)))
+            (charges-stay t a e 0 (l .list) (g .kept) (rw k refl));
       })
 
   pub mark-same : e .sort ≡ 8 → Same t (markOf a e) (ledgerStep t l e)
@@ -172,12 +172,12 @@ module _ (t : Terms) (a : Account) (l : Ledger) (e : Event) (g : Agree t a l) (s
         code = refl;
         value = refl;
         again = agreed t a l g e h s z _ (serviceMove l (l .on)) (g .terms) (on-is z (rw k refl) (rw k refl) (rw k refl)) (still-bounds (a .totals .on))
-          (record { payments = g .sizes .payments; days = g .sizes .days; marks = marked-length (a .marks) (e .kind) (e .from) (e .to) ∙ g .sizes .marks; warned = g .sizes .warned; charges = g .sizes .charges })
-          (payments-stay t a e 0 (l .list) (g .kept) (rw k refl) (rw k refl))
-          (days-stay t a e 0 (l .list) (g .kept) (rw k refl) (rw k refl))
-          (marks-set t a e 0 (l .list) (g .kept) (rw k refl) (g .sizes .marks) (limit .kind .least) (limit .kind .most) (limit .to))
-          (warned-stay t a e 0 (l .list) (g .kept) (rw k refl))
-          (charges-stay t a e 0 (l .list) (g .kept) (rw k refl));
+            (record { payments = g .sizes .payments; days = g .sizes .days; marks = marked-length (a .marks) (e .kind) (e .from) (e .to) ∙ g .sizes .marks; warned = g .sizes .warned; charges = g .sizes .charges })
+            (payments-stay t a e 0 (l .list) (g .kept) (rw k refl) (rw k refl))
+            (days-stay t a e 0 (l .list) (g .kept) (rw k refl) (rw k refl))
+            (marks-set t a e 0 (l .list) (g .kept) (rw k refl) (g .sizes .marks) (limit .kind .least) (limit .kind .most) (limit .to))
+            (warned-stay t a e 0 (l .list) (g .kept) (rw k refl))
+            (charges-stay t a e 0 (l .list) (g .kept) (rw k refl));
       })
 
   -- a plan is for a B below 0
@@ -202,14 +202,14 @@ module _ (t : Terms) (a : Account) (l : Ledger) (e : Event) (g : Agree t a l) (s
       let q′ : deferral a ≡ t .connect + d - c = ap (λ (x : Terms). x .connect + d - c) (g .terms) in
       decide (ltb 0 (l .plan))
       (λ p. let p′ : ltb 0 (a .totals .plan) ≡ true = rw (g .sums .plan) p in
-        simp p′ (refused-same t a l g e 10 (plan-code t l e h k ∙ simp (allowed, p)) refl))
+      simp p′ (refused-same t a l g e 10 (plan-code t l e h k ∙ simp (allowed, p)) refl))
       (λ p. let p′ : ltb 0 (a .totals .plan) ≡ false = rw (g .sums .plan) p in
-        let z : refusal t l e ≡ 0 = plan-code t l e h k ∙ simp (allowed, p) in
-        simp p′ (rw (takes t l e (planMove t l) z (plan-move t l e k))
-        (record {
-          code = refl;
-          value = q;
-          again = agreed t a l g e h s z _ (planMove t l) (g .terms)
+      let z : refusal t l e ≡ 0 = plan-code t l e h k ∙ simp (allowed, p) in
+      simp p′ (rw (takes t l e (planMove t l) z (plan-move t l e k))
+      (record {
+        code = refl;
+        value = q;
+        again = agreed t a l g e h s z _ (planMove t l) (g .terms)
             (record {
               events = omega (arith, g .sums .events);
               last = refl;
@@ -233,7 +233,7 @@ module _ (t : Terms) (a : Account) (l : Ledger) (e : Event) (g : Agree t a l) (s
             (marks-stay t a e 0 (l .list) (g .kept) (rw k refl))
             (warned-stay t a e 0 (l .list) (g .kept) (rw k refl))
             (charges-stay t a e 0 (l .list) (g .kept) (rw k refl));
-        })))
+      })))
 
   pub plan-same : e .sort ≡ 9 → Same t (planOf a e) (ledgerStep t l e)
   unfolding planOf
@@ -250,12 +250,12 @@ module _ (t : Terms) (a : Account) (l : Ledger) (e : Event) (g : Agree t a l) (s
         code = refl;
         value = refl;
         again = agreed t a l g e h s z _ (serviceMove l b) (g .terms) (still-sums b b refl z f₁ f₆ f₅) (still-bounds b)
-          (record { payments = g .sizes .payments; days = g .sizes .days; marks = g .sizes .marks; warned = g .sizes .warned; charges = g .sizes .charges })
-          (payments-stay t a e 0 (l .list) (g .kept) f₁ f₂)
-          (days-stay t a e 0 (l .list) (g .kept) f₅ f₆)
-          (marks-stay t a e 0 (l .list) (g .kept) f₈)
-          (warned-stay t a e 0 (l .list) (g .kept) f₇)
-          (charges-stay t a e 0 (l .list) (g .kept) f₄);
+            (record { payments = g .sizes .payments; days = g .sizes .days; marks = g .sizes .marks; warned = g .sizes .warned; charges = g .sizes .charges })
+            (payments-stay t a e 0 (l .list) (g .kept) f₁ f₂)
+            (days-stay t a e 0 (l .list) (g .kept) f₅ f₆)
+            (marks-stay t a e 0 (l .list) (g .kept) f₈)
+            (warned-stay t a e 0 (l .list) (g .kept) f₇)
+            (charges-stay t a e 0 (l .list) (g .kept) f₄);
       })
 
   -- B against a limit of the terms

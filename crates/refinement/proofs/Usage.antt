@@ -71,31 +71,31 @@ module _ (t : Terms) (a : Account) (l : Ledger) (e : Event) (g : Agree t a l) (s
           code = refl;
           value = cost-is;
           again = agreed t a l g e h s z _ (estimateMove t l e) (g .terms)
-            (record {
-              events = omega (arith, g .sums .events);
-              last = refl;
-              balance = ap (λ (x : ℤ). x -ℤ pos (eventCost t l e)) (g .sums .balance)
-                ∙ diff-sub (a .totals .credit) (a .totals .debit) (eventCost t l e)
-                ∙ ap (λ (x : ℕ). diff (a .totals .credit) (a .totals .debit + x)) (sym cost-is);
-              plan = g .sums .plan;
-              on = g .sums .on;
-              standing = omega (arith, g .sums .standing, stands, cost-is);
-              count = g .sums .count ∙ sym (payments-same e 0 (l .list) (rw k refl));
-            })
-            (record {
-              full = room;
-              count = g .bounds .count;
-              credit = omega (arith, g .bounds .credit);
-              debit = omega (arith, g .bounds .debit, cost-most (inl k));
-              plan = omega (arith, g .bounds .plan);
-              standing = omega (arith, g .bounds .standing, cost-most (inl k));
-            })
-            (record { payments = g .sizes .payments; days = simp length-set (g .sizes .days); marks = g .sizes .marks; warned = g .sizes .warned; charges = g .sizes .charges })
-            (payments-stay t a e 0 (l .list) (g .kept) (rw k refl) (rw k refl))
-            (rw price-is (days-set t a e 0 (l .list) (g .kept) (estimated (e .wh) (costOf (e .wh) (t .price))) (g .sizes .days) used new))
-            (marks-stay t a e 0 (l .list) (g .kept) (rw k refl))
-            (warned-stay t a e 0 (l .list) (g .kept) (rw k refl))
-            (charges-stay t a e 0 (l .list) (g .kept) (rw k refl));
+              (record {
+                events = omega (arith, g .sums .events);
+                last = refl;
+                balance = ap (λ (x : ℤ). x -ℤ pos (eventCost t l e)) (g .sums .balance)
+                    ∙ diff-sub (a .totals .credit) (a .totals .debit) (eventCost t l e)
+                    ∙ ap (λ (x : ℕ). diff (a .totals .credit) (a .totals .debit + x)) (sym cost-is);
+                plan = g .sums .plan;
+                on = g .sums .on;
+                standing = omega (arith, g .sums .standing, stands, cost-is);
+                count = g .sums .count ∙ sym (payments-same e 0 (l .list) (rw k refl));
+              })
+              (record {
+                full = room;
+                count = g .bounds .count;
+                credit = omega (arith, g .bounds .credit);
+                debit = omega (arith, g .bounds .debit, cost-most (inl k));
+                plan = omega (arith, g .bounds .plan);
+                standing = omega (arith, g .bounds .standing, cost-most (inl k));
+              })
+              (record { payments = g .sizes .payments; days = simp length-set (g .sizes .days); marks = g .sizes .marks; warned = g .sizes .warned; charges = g .sizes .charges })
+              (payments-stay t a e 0 (l .list) (g .kept) (rw k refl) (rw k refl))
+              (rw price-is (days-set t a e 0 (l .list) (g .kept) (estimated (e .wh) (costOf (e .wh) (t .price))) (g .sizes .days) used new))
+              (marks-stay t a e 0 (l .list) (g .kept) (rw k refl))
+              (warned-stay t a e 0 (l .list) (g .kept) (rw k refl))
+              (charges-stay t a e 0 (l .list) (g .kept) (rw k refl));
         })
 
     metered-same : (old : ℕ) → e .sort ≡ 6 → isMetered (usageDay t (l .list) (e .usage)) ≡ false → old ≡ estimateCost (usageDay t (l .list) (e .usage)) → old ≤ 10000000
@@ -110,33 +110,33 @@ module _ (t : Terms) (a : Account) (l : Ledger) (e : Event) (g : Agree t a l) (s
           code = refl;
           value = cost-is;
           again = agreed t a l g e h s z _ (readMove t l e) (g .terms)
-            (record {
-              events = omega (arith, g .sums .events);
-              last = refl;
-              balance = ap (λ (x : ℤ). x +ℤ pos (estimateCost (usageDay t (l .list) (e .usage))) -ℤ pos (eventCost t l e)) (g .sums .balance)
-                ∙ ap (λ (x : ℤ). x -ℤ pos (eventCost t l e)) (diff-add (a .totals .credit) (a .totals .debit) (estimateCost (usageDay t (l .list) (e .usage))))
-                ∙ diff-sub (a .totals .credit + estimateCost (usageDay t (l .list) (e .usage))) (a .totals .debit) (eventCost t l e)
-                ∙ ap (λ (x : ℕ). diff (a .totals .credit + x) (a .totals .debit + eventCost t l e)) (sym q)
-                ∙ ap (λ (x : ℕ). diff (a .totals .credit + old) (a .totals .debit + x)) (sym cost-is);
-              plan = g .sums .plan;
-              on = g .sums .on;
-              standing = omega (arith, g .sums .standing, stands, q);
-              count = g .sums .count ∙ sym (payments-same e 0 (l .list) (rw k refl));
-            })
-            (record {
-              full = room;
-              count = g .bounds .count;
-              credit = omega (arith, g .bounds .credit, most);
-              debit = omega (arith, g .bounds .debit, cost-most (inr k));
-              plan = omega (arith, g .bounds .plan);
-              standing = omega (arith, g .bounds .standing);
-            })
-            (record { payments = g .sizes .payments; days = simp length-set (g .sizes .days); marks = g .sizes .marks; warned = g .sizes .warned; charges = g .sizes .charges })
-            (payments-stay t a e 0 (l .list) (g .kept) (rw k refl) (rw k refl))
-            (rw price-is (days-set t a e 0 (l .list) (g .kept) (metered (e .wh) (costOf (e .wh) (t .price))) (g .sizes .days) used new))
-            (marks-stay t a e 0 (l .list) (g .kept) (rw k refl))
-            (warned-stay t a e 0 (l .list) (g .kept) (rw k refl))
-            (charges-stay t a e 0 (l .list) (g .kept) (rw k refl));
+              (record {
+                events = omega (arith, g .sums .events);
+                last = refl;
+                balance = ap (λ (x : ℤ). x +ℤ pos (estimateCost (usageDay t (l .list) (e .usage))) -ℤ pos (eventCost t l e)) (g .sums .balance)
+                    ∙ ap (λ (x : ℤ). x -ℤ pos (eventCost t l e)) (diff-add (a .totals .credit) (a .totals .debit) (estimateCost (usageDay t (l .list) (e .usage))))
+                    ∙ diff-sub (a .totals .credit + estimateCost (usageDay t (l .list) (e .usage))) (a .totals .debit) (eventCost t l e)
+                    ∙ ap (λ (x : ℕ). diff (a .totals .credit + x) (a .totals .debit + eventCost t l e)) (sym q)
+                    ∙ ap (λ (x : ℕ). diff (a .totals .credit + old) (a .totals .debit + x)) (sym cost-is);
+                plan = g .sums .plan;
+                on = g .sums .on;
+                standing = omega (arith, g .sums .standing, stands, q);
+                count = g .sums .count ∙ sym (payments-same e 0 (l .list) (rw k refl));
+              })
+              (record {
+                full = room;
+                count = g .bounds .count;
+                credit = omega (arith, g .bounds .credit, most);
+                debit = omega (arith, g .bounds .debit, cost-most (inr k));
+                plan = omega (arith, g .bounds .plan);
+                standing = omega (arith, g .bounds .standing);
+              })
+              (record { payments = g .sizes .payments; days = simp length-set (g .sizes .days); marks = g .sizes .marks; warned = g .sizes .warned; charges = g .sizes .charges })
+              (payments-stay t a e 0 (l .list) (g .kept) (rw k refl) (rw k refl))
+              (rw price-is (days-set t a e 0 (l .list) (g .kept) (metered (e .wh) (costOf (e .wh) (t .price))) (g .sizes .days) used new))
+              (marks-stay t a e 0 (l .list) (g .kept) (rw k refl))
+              (warned-stay t a e 0 (l .list) (g .kept) (rw k refl))
+              (charges-stay t a e 0 (l .list) (g .kept) (rw k refl));
         })
 
     -- by the day's state

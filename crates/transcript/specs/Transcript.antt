@@ -1,8 +1,9 @@
 -- What `prepay` prints, as a definition of the bytes it was given, in the ledger's terms (document 01, "Event text").
 use Prim.Native.Nat.{ℕ, zero, suc, _+_}
+use mathlib.Core.Path.{_≡_}
 use mathlib.Core.Bool.{Bool, true, cond}
 use mathlib.Core.List.{List, [], _∷_, _++_}
-use lib.ListN.{length}
+use lib.ListN.{length, drop}
 use lib.Dec.{ltb}
 use lib.IntN.{ℤ, pos}
 use Rattle.terms.specs.Terms.{validTerms}
@@ -75,3 +76,9 @@ byTerms broken = termsLine 15
 
 unfoldable pub transcript : List ℕ → List ℕ
 transcript s = cond (ltb 65536 (length s)) (termsLine 15) (byTerms (readTerms s))
+
+-- What the call leaves: in a buffer of 655,360 bytes or more the whole transcript from its start, its length as the answer, and the bytes
+-- past it as they were; in a shorter one nothing, and 0.
+pub record Written (s before after : List ℕ) (r : ℕ) : Type 0 where
+  pub answer : r ≡ cond (ltb (length before) 655360) 0 (length (transcript s))
+  pub bytes : after ≡ cond (ltb (length before) 655360) before (transcript s ++ drop (length (transcript s)) before)

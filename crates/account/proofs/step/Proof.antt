@@ -24,8 +24,8 @@ other : (c : tie.At-match-came) → let n = c .before .before .before .before .b
 other c = elim (c .match .came) [
   | inl w ↦ inl (w .keys12)
   | inr w ↦ let r = w .rest .0 in
-    let low = r .0 .0 .0 .0 .0 .0 in
-    inr (six _ 6 (six _ 0 zero-le (w .rest .1) (low .0 .0 .0 .0 .1) (low .0 .0 .0 .1) (low .0 .0 .1) (low .0 .1) (low .1)) (r .0 .0 .0 .0 .0 .1) (r .0 .0 .0 .0 .1) (r .0 .0 .0 .1) (r .0 .0 .1) (r .0 .1) (r .1))
+      let low = r .0 .0 .0 .0 .0 .0 in
+      inr (six _ 6 (six _ 0 zero-le (w .rest .1) (low .0 .0 .0 .0 .1) (low .0 .0 .0 .1) (low .0 .0 .1) (low .0 .1) (low .1)) (r .0 .0 .0 .0 .0 .1) (r .0 .0 .0 .0 .1) (r .0 .0 .0 .1) (r .0 .0 .1) (r .0 .1) (r .1))
 ]
 
 early-requires : tie.Need-early-requires

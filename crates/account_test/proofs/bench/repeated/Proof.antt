@@ -1,0 +1,37 @@
+-- `account_test::bench::repeated` is safe and ends. The measure is the number of events left; nothing has to hold from turn to turn.
+-- Assumes nothing.
+use Prim.Native.Nat.{_-_}
+use borrow.Author.Needs.{needs}
+use native.Mathlib.Omega.{arith}
+use Rattle.account_test.proofs.bench.repeated.Statement.{statement}
+use Rattle.account_test.proofs.bench.repeated.Tie as tie
+
+abbrev Inv-loop : tie.InvT-loop
+Inv-loop e n each code at₀ right₀ i₀ at right i = Unit {0}
+
+abbrev μ-loop : tie.MeasureT-loop
+μ-loop e n each code at₀ right₀ i₀ at right i = n - i
+
+loop-holds : tie.Need-loop-holds Inv-loop μ-loop
+loop-holds c = tt
+
+numbered-requires : tie.Need-numbered-requires Inv-loop μ-loop
+numbered-requires c κs = tt
+
+step-requires : tie.Need-step-requires Inv-loop μ-loop
+step-requires c κs = tt
+
+add-i : tie.Need-add-i Inv-loop μ-loop
+add-i c = search needs
+
+loop-less : tie.Need-loop-less Inv-loop μ-loop
+loop-less c = omega arith
+
+loop-again : tie.Need-loop-again Inv-loop μ-loop
+loop-again c = tt
+
+returns : tie.Need-returns Inv-loop μ-loop
+returns c = tt
+
+pub repeated-spec : {M : Type 1} → statement M
+repeated-spec = tie.close (tie.spec Inv-loop μ-loop loop-holds numbered-requires step-requires add-i loop-less loop-again returns)

@@ -1,0 +1,128 @@
+-- The month summary off the account record.
+use Prim.Native.Nat.{ℕ, _+_, _*_, min}
+use mathlib.Core.Path.{_≡_}
+use mathlib.Core.Bool.{Bool, true, false, cond, not, _&&_}
+use mathlib.Core.List.{List, [], _∷_}
+use lib.ListN.{getD}
+use lib.Dec.{leb, eqb}
+use Rattle.calendar.specs.declared.Date.{Date}
+use Rattle.calendar.specs.Calendar.{dateOn, monthFrom, isDay, total}
+use Rattle.calendar.specs.Days.{anyDay}
+use Rattle.terms.specs.Terms.{validTerms}
+use Rattle.terms.specs.declared.Terms.{Terms}
+use Rattle.ledger.specs.declared.Event.{Event}
+use Rattle.ledger.specs.declared.Counted.{Counted}
+use Rattle.ledger.specs.declared.Used.{Used}
+use Rattle.ledger.specs.declared.Summary.{Summary}
+use Rattle.ledger.specs.Rules.{Ledger}
+use Rattle.ledger.specs.Ledger.{opening, ledgerAfter}
+use Rattle.ledger.specs.Months.{isReversed, averageOf, noSummary}
+use Rattle.account.specs.Record.{blankDay, noPayment, costHeld, fresh}
+use Rattle.account.specs.declared.Usage.{Usage}
+use Rattle.account.specs.declared.Usage.the-variants.{Blank, Estimated, Metered}
+use Rattle.account.specs.declared.Day.{Day}
+use Rattle.account.specs.declared.Payment.{Payment}
+use Rattle.account.specs.declared.Account.{Account}
+use Rattle.posting.specs.Posting.{accountAfter}
+
+-- day d is one of the account's days and lies in month m
+unfoldable pub inMonthOf : Date → ℕ → ℕ → Bool
+inMonthOf opened m d = isDay opened d && eqb (monthFrom opened (dateOn opened d)) m
+
+-- ---- payments
+
+-- what f gives of a payment whose day has q, and of whose being reversed p holds
+abbrev pub ofPayment : (ℕ → Bool) → (Bool → Bool) → (Payment → ℕ) → Payment → ℕ
+ofPayment q p f x = cond (q (x .day) && p (x .reversed)) (f x) 0
+
+-- its sum over the first n payments
+unfoldable pub paymentsBy : (ℕ → Bool) → (Bool → Bool) → (Payment → ℕ) → List Payment → ℕ → ℕ
+paymentsBy q p f l n = total (λ (i : ℕ). ofPayment q p f (getD l i noPayment)) n
+
+abbrev pub one : Payment → ℕ
+one x = 1
+
+abbrev pub amountOf : Payment → ℕ
+amountOf x = x .amount
+
+abbrev pub countedBy : (ℕ → Bool) → (Bool → Bool) → List Payment → ℕ → Counted
+countedBy q p l n = record { count = paymentsBy q p one l n; sum = paymentsBy q p amountOf l n }
+
+-- ---- usage days
+
+abbrev pub whMetered : Usage → ℕ
+whMetered Blank = 0
+whMetered (Estimated wh cost) = 0
+whMetered (Metered wh cost) = wh
+
+abbrev pub costMetered : Usage → ℕ
+costMetered Blank = 0
+costMetered (Estimated wh cost) = 0
+costMetered (Metered wh cost) = cost
+
+abbrev pub whEstimated : Usage → ℕ
+whEstimated Blank = 0
+whEstimated (Estimated wh cost) = wh
+whEstimated (Metered wh cost) = 0
+
+-- the sum of f over those of the first n usage days that have q
+unfoldable pub usageBy : (ℕ → Bool) → (Usage → ℕ) → List Day → ℕ → ℕ
+usageBy q f l n = total (λ (u : ℕ). cond (q u) (f (getD l u blankDay .usage)) 0) n
+
+abbrev pub meteredBy : (ℕ → Bool) → List Day → ℕ → Used
+meteredBy q l n = record { wh = usageBy q whMetered l n; cost = usageBy q costMetered l n }
+
+abbrev pub estimatedBy : (ℕ → Bool) → List Day → ℕ → Used
+estimatedBy q l n = record { wh = usageBy q whEstimated l n; cost = usageBy q costHeld l n }
+
+-- ---- charges: month m's of kinds 1 to 5
+abbrev pub chargesOf : List ℕ → ℕ → List ℕ
+chargesOf l m = getD l (5 * m) 0 ∷ getD l (5 * m + 1) 0 ∷ getD l (5 * m + 2) 0 ∷ getD l (5 * m + 3) 0 ∷ getD l (5 * m + 4) 0 ∷ []
+
+-- No list of charges takes a month's sum past 2 ^ 40: a record that has one is no account of this software's.
+abbrev pub most : ℕ
+most = 1099511627776
+
+-- ---- the summary
+
+-- the figures of the payments, the usage and the charges; kinds 1 and 2 are in the average
+abbrev pub figuresBy : Counted → Counted → Used → Used → List ℕ → Summary
+figuresBy kept reversed metered estimated charges =
+    cond (leb (getD charges 0 0) most && leb (getD charges 1 0) most)
+    (record {
+      code = 0;
+      kept = kept;
+      reversed = reversed;
+      metered = metered;
+      estimated = estimated;
+      charges = charges;
+      average = averageOf (metered .cost + estimated .cost + getD charges 0 0 + getD charges 1 0) (metered .wh + estimated .wh);
+      missing = eqb (metered .wh + estimated .wh) 0;
+    })
+    (noSummary 1)
+
+-- over the days that have q
+unfoldable pub summaryBy : (ℕ → Bool) → Account → ℕ → Summary
+summaryBy q a m =
+    cond (anyDay q 400)
+    (figuresBy
+    (countedBy q not (a .payments) (min (a .totals .count) 128))
+    (countedBy q isReversed (a .payments) (min (a .totals .count) 128))
+    (meteredBy q (a .days) 400)
+    (estimatedBy q (a .days) 400)
+    (chargesOf (a .charges) m))
+    (noSummary 3)
+
+abbrev pub summaryOf : Account → ℕ → Summary
+summaryOf a m = summaryBy (inMonthOf (a .terms .opened) m) a m
+
+-- ---- in the ledger's terms
+
+-- The account is the one that this software made of the terms and these events.
+pub record Made (a : Account) (t : Terms) (es : List Event) : Type 0 where
+  pub valid : validTerms t ≡ true
+  pub account : a ≡ accountAfter (fresh t) es
+
+-- x is what f reads off the ledger, for every list of events that made the account
+abbrev pub IsLedgers : {A : Type 0} → Account → (Terms → Ledger → A) → A → Type 0
+IsLedgers a f x = (t : Terms) (es : List Event) → Made a t es → x ≡ f t (ledgerAfter t opening es)

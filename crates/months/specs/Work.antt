@@ -1,0 +1,64 @@
+-- What the private functions answer. No promise to others cites these.
+use Prim.Native.Nat.{ℕ, _+_, _*_, _≤_}
+use mathlib.Core.Bool.{Bool, cond, not, _&&_}
+use mathlib.Core.List.{List}
+use lib.Dec.{ltb, leb}
+use Rattle.ledger.specs.declared.Counted.{Counted}
+use Rattle.ledger.specs.declared.Used.{Used}
+use Rattle.ledger.specs.declared.Summary.{Summary}
+use Rattle.ledger.specs.Months.{isReversed}
+use Rattle.account.specs.Record.{costHeld}
+use Rattle.account.specs.declared.Usage.{Usage}
+use Rattle.account.specs.declared.Day.{Day}
+use Rattle.account.specs.declared.Payment.{Payment}
+use Rattle.months.specs.Summary.{ofPayment, one, amountOf, countedBy, whMetered, costMetered, whEstimated, meteredBy, estimatedBy, figuresBy}
+use Rattle.months.specs.declared.Paid.{Paid}
+use Rattle.months.specs.declared.Usages.{Usages}
+
+-- days `from` to the day before `to`
+abbrev pub span : ℕ → ℕ → ℕ → Bool
+span from to d = leb from d && ltb d to
+
+-- ---- payments
+
+abbrev pub withAmount : Counted → ℕ → Counted
+withAmount c amount = record { count = c .count + 1; sum = c .sum + amount }
+
+abbrev pub withCounted : (ℕ → Bool) → (Bool → Bool) → Counted → Payment → Counted
+withCounted q p c x = record { count = c .count + ofPayment q p one x; sum = c .sum + ofPayment q p amountOf x }
+
+unfoldable pub withPayment : (ℕ → Bool) → Paid → Payment → Paid
+withPayment q s x = record { kept = withCounted q not (s .kept) x; reversed = withCounted q isReversed (s .reversed) x }
+
+unfoldable pub paidBy : (ℕ → Bool) → List Payment → ℕ → Paid
+paidBy q l n = record { kept = countedBy q not l n; reversed = countedBy q isReversed l n }
+
+-- how far n payments can take them
+pub record PaidTo (n : ℕ) (s : Paid) : Type 0 where
+  pub kept-count : s .kept .count ≤ n
+  pub kept-sum : s .kept .sum ≤ n * 4294967295
+  pub reversed-count : s .reversed .count ≤ n
+  pub reversed-sum : s .reversed .sum ≤ n * 4294967295
+
+-- ---- usage days
+
+abbrev pub withUsage : Used → ℕ → ℕ → Used
+withUsage u wh cost = record { wh = u .wh + wh; cost = u .cost + cost }
+
+unfoldable pub withDay : Usages → Usage → Usages
+withDay s u = record { metered = withUsage (s .metered) (whMetered u) (costMetered u); estimated = withUsage (s .estimated) (whEstimated u) (costHeld u) }
+
+unfoldable pub usedBy : (ℕ → Bool) → List Day → Usages
+usedBy q l = record { metered = meteredBy q l 400; estimated = estimatedBy q l 400 }
+
+-- how far n usage days can take them
+pub record UsedTo (n : ℕ) (s : Usages) : Type 0 where
+  pub metered-wh : s .metered .wh ≤ n * 4294967295
+  pub metered-cost : s .metered .cost ≤ n * 4294967295
+  pub estimated-wh : s .estimated .wh ≤ n * 4294967295
+  pub estimated-cost : s .estimated .cost ≤ n * 4294967295
+
+-- ---- the figures
+
+unfoldable pub figuresOf : Paid → Usages → List ℕ → Summary
+figuresOf p u charges = figuresBy (p .kept) (p .reversed) (u .metered) (u .estimated) charges

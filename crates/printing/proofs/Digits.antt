@@ -1,0 +1,62 @@
+-- A number's digits: one more at a time, and how many. Assumes nothing.
+use mathlib.Core.Path.{_≡_, refl, sym, ap, _∙_}
+use mathlib.Core.Bool.{Bool, true, false}
+use mathlib.Core.List.{List, [], _∷_, _++_}
+use Prim.Native.Nat.{ℕ, zero, suc, _+_, _*_, _/_, _%_, _^_, _≤_, _<_}
+use native.Mathlib.Nat.{pow-succ'}
+use native.Mathlib.Omega.{arith}
+use lib.ListN.{length, length-append}
+use lib.Dec.{ltb}
+use lib.IntN.{ℤ, pos, negsuc}
+use lib.Signed.{mag}
+use borrow.Author.Tests.{ltb-true, ltb-false, lt-ltb, le-ltb}
+use Rattle.printing.specs.Printing.{digits, decimal, signed}
+
+-- each way a test can come out
+pub decide : {X : Type 0} (b : Bool) → (b ≡ true → X) → (b ≡ false → X) → X
+decide true t f = t refl
+decide false t f = f refl
+
+-- more room for digits than there are changes nothing
+enough : (k j n : ℕ) → n < k → n < j → digits k n ≡ digits j n
+unfolding digits
+enough zero j n h g = absurd (omega arith)
+enough (suc k) zero n h g = absurd (omega arith)
+enough (suc k) (suc j) n h g = decide (ltb n 10)
+    (λ t. simp t)
+    (λ f. simp f (ap (λ (d : List ℕ). d ++ ((48 + n % 10) ∷ [])) (enough k j (n / 10) (omega (arith, ltb-false n 10 f)) (omega (arith, ltb-false n 10 f)))))
+
+pub decimal-low : (n : ℕ) → n < 10 → decimal n ≡ (48 + n) ∷ []
+unfolding decimal digits
+decimal-low n h = simp (lt-ltb n 10 h)
+
+pub decimal-high : (n : ℕ) → 10 ≤ n → decimal n ≡ decimal (n / 10) ++ ((48 + n % 10) ∷ [])
+unfolding decimal digits
+decimal-high n h = simp (le-ltb n 10 h) (ap (λ (d : List ℕ). d ++ ((48 + n % 10) ∷ [])) (enough n (suc (n / 10)) (n / 10) (omega arith) (omega arith)))
+
+pub length-high : (n : ℕ) → 10 ≤ n → length (decimal n) ≡ length (decimal (n / 10)) + 1
+length-high n h = ap length (decimal-high n h) ∙ length-append (decimal (n / 10)) ((48 + n % 10) ∷ [])
+
+pub some-digit : (n : ℕ) → 1 ≤ length (decimal n)
+some-digit n = decide (ltb n 10)
+    (λ t. rw (decimal-low n (ltb-true n 10 t)) (omega arith))
+    (λ f. omega (arith, length-high n (ltb-false n 10 f)))
+
+-- a number below a power of ten
+pub short : (k n : ℕ) → n < 10 ^ suc k → length (decimal n) ≤ suc k
+short zero n h = rw (decimal-low n h) (omega arith)
+short (suc k) n h = decide (ltb n 10)
+    (λ t. rw (decimal-low n (ltb-true n 10 t)) (omega arith))
+    (λ f. omega (arith, length-high n (ltb-false n 10 f), short k (n / 10) (let b : n < 10 * 10 ^ suc k = rw (pow-succ' 10 (suc k)) at h in omega arith)))
+
+pub length-decimal : (n : ℕ) → n < 2 ^ 64 → length (decimal n) ≤ 20
+length-decimal n h = short 19 n (omega arith)
+
+-- a byte has three digits at most
+pub length-byte : (n : ℕ) → n < 2 ^ 8 → length (decimal n) ≤ 3
+length-byte n h = short 2 n (omega arith)
+
+pub length-signed : (z : ℤ) → mag z < 2 ^ 63 → length (signed z) ≤ 20
+unfolding signed
+length-signed (pos n) h = length-decimal n (omega arith)
+length-signed (negsuc n) h = omega (arith, short 18 (suc n) (omega arith))

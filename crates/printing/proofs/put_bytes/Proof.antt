@@ -1,0 +1,90 @@
+-- `printing::put_bytes` meets its contract. The loop's invariant: the first i bytes are in their places, and the rest is as it was.
+-- Assumes nothing.
+use Prim.Native.Nat.{_+_, _-_, _≤_}
+use mathlib.Core.Path.{_≡_, refl, sym, _∙_}
+use native.Mathlib.Numerals.{add-one}
+use native.Mathlib.Omega.{arith}
+use lib.ListN.{length, length-set}
+use lib.Seq.{paste, paste-zero, paste-suc, length-paste}
+use borrow.Author.Needs.{needs}
+use denote.Ref.{now}
+use borrow.Author.Tests.{leb-true, le-leb, not-true, not-false}
+use Rattle.printing.proofs.Laws.{paste-all, puts-nothing, puts-all}
+use Rattle.printing.proofs.put_bytes.Statement.{statement}
+use Rattle.printing.proofs.put_bytes.Tie as tie
+
+abbrev Inv-loop : tie.InvT-loop
+Inv-loop out₀ at bytes count i₀ out i = (i ≤ length bytes) × (at + length bytes ≤ length out₀) × (out ≡ paste out₀ at bytes i)
+
+abbrev μ-loop : tie.MeasureT-loop
+μ-loop out₀ at bytes count i₀ out i = length bytes - i
+
+room-requires : tie.Need-room-requires Inv-loop μ-loop
+room-requires c κs = search needs
+
+returns : tie.Need-returns Inv-loop μ-loop
+returns c = puts-nothing _ _ _ (sym (c .before .room .ensures) ∙ not-true _ (c .if1 .taken))
+
+loop-holds : tie.Need-loop-holds Inv-loop μ-loop
+loop-holds c =
+    let a = c .before .before .before .before .args in
+    (search needs, leb-true (a .at + length (now (a .bytes))) (length (now (a .out))) (sym (c .before .room .ensures) ∙ not-false _ (c .if1 .left)), paste-zero (now (a .out)) (a .at) (now (a .bytes)))
+
+shared-slice-read-out : tie.Need-shared-slice-read-out Inv-loop μ-loop
+shared-slice-read-out c = search needs
+
+add-out : tie.Need-add-out Inv-loop μ-loop
+add-out c = search needs
+
+slice-write-out : tie.Need-slice-write-out Inv-loop μ-loop
+slice-write-out c =
+    let a = c .before .before .before .before .before .before .before .args in
+    let l = c .before .before .loop in
+    rw (l .inv .2, length-paste (now (a .out)) (a .at) (now (a .bytes)) (l .i) (omega arith) (l .inv .0)) (omega arith)
+
+add-i : tie.Need-add-i Inv-loop μ-loop
+add-i c = search needs
+
+loop-less : tie.Need-loop-less Inv-loop μ-loop
+loop-less c = search needs
+
+loop-again : tie.Need-loop-again Inv-loop μ-loop
+loop-again c =
+    let a = c .before .before .before .before .before .before .before .args in
+    let l = c .before .before .loop in
+    (search needs, l .inv .1, rw (add-one (l .i), l .inv .2) (paste-suc (now (a .out)) (a .at) (now (a .bytes)) (l .i) 0 (omega arith) (omega arith)))
+
+add-result : tie.Need-add-result Inv-loop μ-loop
+add-result c = search needs
+
+same-length : tie.Need-same-length Inv-loop μ-loop
+same-length c =
+    let a = c .before .before .before .before .before .before .args in
+    let l = c .before .loop in
+    rw (l .inv .2) (length-paste (now (a .out)) (a .at) (now (a .bytes)) (l .i) (omega arith) (l .inv .0))
+
+returns-2 : tie.Need-returns-2 Inv-loop μ-loop
+returns-2 c =
+    let a = c .before .before .before .before .before .before .args in
+    let l = c .before .loop in
+    let e : l .i ≡ length (now (a .bytes)) = omega arith in
+    puts-all _ _ _ _ _ (le-leb _ _ (l .inv .1)) (l .inv .2 ∙ paste-all (now (a .out)) (a .at) (now (a .bytes)) (l .i) e) refl
+
+pub put-bytes-spec : {M : Type 1} → statement M
+put-bytes-spec =
+    tie.close
+    (tie.spec
+    Inv-loop
+    μ-loop
+    room-requires
+    returns
+    loop-holds
+    shared-slice-read-out
+    add-out
+    slice-write-out
+    add-i
+    loop-less
+    loop-again
+    add-result
+    same-length
+    returns-2)

@@ -1,0 +1,17 @@
+-- `printing::room` meets its contract. Assumes nothing.
+use Prim.Native.Nat.{_+_}
+use mathlib.Core.Path.{_≡_, refl, sym, _∙_}
+use native.Mathlib.Omega.{arith}
+use borrow.Author.Tests.{lt-leb}
+use Rattle.printing.proofs.Laws.{moved-over}
+use Rattle.printing.proofs.room.Statement.{statement}
+use Rattle.printing.proofs.room.Tie as tie
+
+returns : tie.Need-returns
+returns c = let a = c .before .args in sym (lt-leb (a .at + a .count) (a .length) (omega arith))
+
+returns-2 : tie.Need-returns-2
+returns-2 c = let a = c .before .args in moved-over (a .at) (a .count) (a .length) (c .if1 .left)
+
+pub room-spec : {M : Type 1} → statement M
+room-spec = tie.close (tie.spec returns returns-2)
