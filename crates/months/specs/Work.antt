@@ -48,8 +48,8 @@ withUsage u wh cost = record { wh = u .wh + wh; cost = u .cost + cost }
 unfoldable pub withDay : Usages → Usage → Usages
 withDay s u = record { metered = withUsage (s .metered) (whMetered u) (costMetered u); estimated = withUsage (s .estimated) (whEstimated u) (costHeld u) }
 
-unfoldable pub usedBy : (ℕ → Bool) → List Day → Usages
-usedBy q l = record { metered = meteredBy q l 400; estimated = estimatedBy q l 400 }
+unfoldable pub usedBy : (ℕ → Bool) → List Day → ℕ → Usages
+usedBy q l n = record { metered = meteredBy q l n; estimated = estimatedBy q l n }
 
 -- how far n usage days can take them
 pub record UsedTo (n : ℕ) (s : Usages) : Type 0 where

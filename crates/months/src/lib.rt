@@ -134,7 +134,7 @@ fn with_day(s: Usages, d: Day) -> Usages
 
 fn used_in(days: [Day; 400], from: u32, to: u32) -> Usages
     requires { ⌜ (from ≤ to) × (to ≤ 400) ⌝ }
-    ensures { λ r. ⌜ r ≡ usedBy (span from to) days ⌝ }
+    ensures { λ r. ⌜ r ≡ usedBy (span from to) days 400 ⌝ }
     ensures { λ r. ⌜ UsedTo 400 r ⌝ }
 {
     let mut s = Usages {

@@ -24,6 +24,7 @@ ghost use Rattle.transcript.specs.Work.{Wrote, headLine, headClosing, he
 fn put_field(out: &mut [u8], at: usize, word: &[u8], n: u64) -> usize
     requires { ⌜ at + length (now word) + 20 ≤ length (now out) ⌝ }
     ensures { λ r. ⌜ Wrote (now (out .entry)) at (now (word .entry) ++ decimal n) (now (out .exit)) r ⌝ }
+    ensures { λ r. ⌜ r ≤ at + length (now (word .entry)) + 20 ⌝ }
 {
     let next = put_bytes(out, at, word);
     put_number(out, next, n)
@@ -33,6 +34,7 @@ fn put_field(out: &mut [u8], at: usize, word: &[u8], n: u64) -> usize
 fn put_sum(out: &mut [u8], at: usize, word: &[u8], z: i64) -> usize
     requires { ⌜ at + length (now word) + 20 ≤ length (now out) ⌝ }
     ensures { λ r. ⌜ Wrote (now (out .entry)) at (now (word .entry) ++ signed z) (now (out .exit)) r ⌝ }
+    ensures { λ r. ⌜ r ≤ at + length (now (word .entry)) + 20 ⌝ }
 {
     let next = put_bytes(out, at, word);
     put_signed(out, next, z)

@@ -1,3 +1,11 @@
+-- `months::paid_in` meets its contract. The loop's invariant: what the payments passed come to.
+-- Assumes nothing.
+use Prim.Native.Nat.{_≤_, _-_}
+use mathlib.Core.Path.{_≡_}
+use native.Mathlib.Omega.{arith}
+use borrow.Author.Needs.{needs}
+use Rattle.months.specs.Work.{span, paidBy, PaidTo}
+use Rattle.months.proofs.Turns.{paid-none, paid-turn}
 use Rattle.months.proofs.paid_in.Statement.{statement}
 use Rattle.months.proofs.paid_in.Tie as tie
 use Rattle.months.proofs.paid_in.Reads as reads
@@ -5,44 +13,35 @@ use Rattle.months.proofs.paid_in.Lts as lts
 use Rattle.months.proofs.with_payment.Reads as with-payment-reads
 
 abbrev Inv-loop : tie.InvT-loop
-Inv-loop count from to payments s₀ n₀ s n = ?
+Inv-loop count from to payments s₀ n₀ s n = (n ≤ count) × (s ≡ paidBy (span from to) payments n) × PaidTo n s
 
 abbrev μ-loop : tie.MeasureT-loop
-μ-loop count from to payments s₀ n₀ s n = ?
+μ-loop count from to payments s₀ n₀ s n = count - n
 
--- src/lib.rt:81:5
 loop-holds : tie.Need-loop-holds Inv-loop μ-loop
-loop-holds c = ?
+loop-holds c = (search needs, paid-none _ _, search needs)
 
--- src/lib.rt:82:17
 cast-i : tie.Need-cast-i Inv-loop μ-loop
-cast-i c = ?
+cast-i c = search needs
 
--- src/lib.rt:83:17
 mul-p : tie.Need-mul-p Inv-loop μ-loop
-mul-p c = ?
+mul-p c = search needs
 
--- src/lib.rt:83:17
 array-copy-out-p : tie.Need-array-copy-out-p Inv-loop μ-loop
-array-copy-out-p c = ?
+array-copy-out-p c = search needs
 
--- src/lib.rt:84:9
 with-payment-requires : tie.Need-with-payment-requires Inv-loop μ-loop
-with-payment-requires c κs = ?
+with-payment-requires c κs = search needs
 
--- src/lib.rt:85:9
 add-n : tie.Need-add-n Inv-loop μ-loop
-add-n c = ?
+add-n c = search needs
 
--- src/lib.rt:81:5
 loop-less : tie.Need-loop-less Inv-loop μ-loop
-loop-less c = ?
+loop-less c = search needs
 
--- src/lib.rt:81:5
 loop-again : tie.Need-loop-again Inv-loop μ-loop
 loop-again c = ?
 
--- src/lib.rt:72:1
 returns : tie.Need-returns Inv-loop μ-loop
 returns c = ?
 

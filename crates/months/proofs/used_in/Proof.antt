@@ -1,3 +1,11 @@
+-- `months::used_in` meets its contract. The loop's invariant: what the days passed come to; those before `from` come to nothing.
+-- Assumes nothing.
+use Prim.Native.Nat.{_≤_, _-_}
+use mathlib.Core.Path.{_≡_}
+use native.Mathlib.Omega.{arith}
+use borrow.Author.Needs.{needs}
+use Rattle.months.specs.Work.{span, usedBy, UsedTo}
+use Rattle.months.proofs.Turns.{used-none, used-turn, used-all}
 use Rattle.months.proofs.used_in.Statement.{statement}
 use Rattle.months.proofs.used_in.Tie as tie
 use Rattle.months.proofs.used_in.Reads as reads
@@ -5,44 +13,35 @@ use Rattle.months.proofs.used_in.Lts as lts
 use Rattle.months.proofs.with_day.Reads as with-day-reads
 
 abbrev Inv-loop : tie.InvT-loop
-Inv-loop from to days s₀ d₀ s d = ?
+Inv-loop from to days s₀ d₀ s d = (from ≤ d) × (d ≤ to) × (s ≡ usedBy (span from to) days d) × UsedTo d s
 
 abbrev μ-loop : tie.MeasureT-loop
-μ-loop from to days s₀ d₀ s d = ?
+μ-loop from to days s₀ d₀ s d = to - d
 
--- src/lib.rt:145:5
 loop-holds : tie.Need-loop-holds Inv-loop μ-loop
-loop-holds c = ?
+loop-holds c = (search needs, search needs, used-none _ _ _, search needs)
 
--- src/lib.rt:146:17
 cast-i : tie.Need-cast-i Inv-loop μ-loop
-cast-i c = ?
+cast-i c = search needs
 
--- src/lib.rt:147:17
 mul-x : tie.Need-mul-x Inv-loop μ-loop
-mul-x c = ?
+mul-x c = search needs
 
--- src/lib.rt:147:17
 array-copy-out-x : tie.Need-array-copy-out-x Inv-loop μ-loop
-array-copy-out-x c = ?
+array-copy-out-x c = search needs
 
--- src/lib.rt:148:9
 with-day-requires : tie.Need-with-day-requires Inv-loop μ-loop
-with-day-requires c κs = ?
+with-day-requires c κs = search needs
 
--- src/lib.rt:149:9
 add-d : tie.Need-add-d Inv-loop μ-loop
-add-d c = ?
+add-d c = search needs
 
--- src/lib.rt:145:5
 loop-less : tie.Need-loop-less Inv-loop μ-loop
-loop-less c = ?
+loop-less c = search needs
 
--- src/lib.rt:145:5
 loop-again : tie.Need-loop-again Inv-loop μ-loop
 loop-again c = ?
 
--- src/lib.rt:135:1
 returns : tie.Need-returns Inv-loop μ-loop
 returns c = ?
 

@@ -1,33 +1,37 @@
+-- `months::with_payment` meets its contract.
+-- Assumes nothing.
+use native.Mathlib.Omega.{arith}
+use mathlib.Core.Bool.{and-false}
 use borrow.Author.Needs.{needs}
+use borrow.Author.Tests.{le-leb, lt-leb, le-ltb, lt-ltb}
+use Rattle.months.specs.Work.{withPayment}
 use Rattle.months.proofs.with_payment.Statement.{statement}
 use Rattle.months.proofs.with_payment.Tie as tie
 use Rattle.months.proofs.with_payment.Reads as reads
 use Rattle.months.proofs.with_payment.Lts as lts
 use Rattle.months.proofs.with_amount.Reads as with-amount-reads
 
--- src/lib.rt:53:9
 returns : tie.Need-returns
-returns c = ?
+unfolding withPayment
+returns c = (simp (lt-leb _ _ (c .if1 .taken)), λ n h. omega arith)
 
--- src/lib.rt:56:9
 returns-2 : tie.Need-returns-2
-returns-2 c = ?
+unfolding withPayment
+returns-2 c = (simp (le-ltb _ _ (c .if2 .taken), and-false), λ n h. omega arith)
 
--- src/lib.rt:63:23
 with-amount-requires : tie.Need-with-amount-requires
 with-amount-requires c κs = search needs
 
--- src/lib.rt:61:9
 returns-3 : tie.Need-returns-3
-returns-3 c = ?
+unfolding withPayment
+returns-3 c = (?, ?)
 
--- src/lib.rt:67:15
 with-amount-requires-2 : tie.Need-with-amount-requires-2
 with-amount-requires-2 c κs = search needs
 
--- src/lib.rt:47:1
 returns-4 : tie.Need-returns-4
-returns-4 c = ?
+unfolding withPayment
+returns-4 c = (?, ?)
 
 pub with-payment-spec : {M : Type 1} → statement M
 with-payment-spec =
