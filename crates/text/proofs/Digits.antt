@@ -14,11 +14,11 @@ use Rattle.text.specs.Text.{isDigit, allDigits, valueFrom, isNumber}
 use Rattle.text.specs.Places.{digitsOf, numberOf}
 use Rattle.text.specs.declared.Number.the-variants.{Is, Wrong}
 
-both-left : (a b : Bool) → (a && b) ≡ true → a ≡ true
+pub both-left : (a b : Bool) → (a && b) ≡ true → a ≡ true
 both-left true b h = refl
 both-left false b h = h
 
-both-right : (a b : Bool) → (a && b) ≡ true → b ≡ true
+pub both-right : (a b : Bool) → (a && b) ≡ true → b ≡ true
 both-right true b h = h
 both-right false b h = absurd (let z : _≡_ {A = ℕ} 0 1 = cc in omega arith)
 

@@ -2,3 +2,4 @@ pub mod Lines
 pub mod Digits
 pub mod Words
 pub mod Values
+pub mod Dates

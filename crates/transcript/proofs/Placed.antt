@@ -36,3 +36,12 @@ module _ {b : List ℕ} {at : ℕ} {x after : List ℕ} {r : ℕ} where
 pub field-then : {b : List ℕ} {at : ℕ} {word digits after : List ℕ} {r : ℕ} {y last : List ℕ} {q : ℕ}
     → Wrote b at (word ++ digits) after r → Wrote after r y last q → Wrote b at (word ++ (digits ++ y)) last q
 field-then {b} {at} {word} {digits} {after} {r} {y} w v = rw (sym (append-assoc word digits y)) (wrote-then w v)
+
+-- a word and digits, twenty at most
+pub two : {b : List ℕ} {at : ℕ} {word digits after : List ℕ} {r : ℕ} {last : List ℕ} {q : ℕ}
+    → Puts b at word after r → Puts after r digits last q → at + length word + 20 ≤ length b → length digits ≤ 20
+    → Wrote b at (word ++ digits) last q × (q ≤ at + length word + 20)
+two {b} {at} {word} {digits} {after} {r} {last} {q} p v h k =
+    let first : Wrote b at word after r = placed p (omega arith) in
+    let second : Wrote after r digits last q = placed v (omega (arith, kept first, first .next)) in
+    (wrote-then first second, omega (arith, first .next, second .next))

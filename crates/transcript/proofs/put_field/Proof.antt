@@ -1,14 +1,6 @@
 -- `transcript::put_field` meets its contract. Assumes nothing.
-use Prim.Native.Nat.{_+_, _≤_}
-use mathlib.Core.Path.{_≡_, sym, ap, _∙_}
-use mathlib.Core.List.{_++_}
-use native.Mathlib.Omega.{arith}
-use lib.ListN.{length, length-append}
-use denote.Ref.{now}
-use Rattle.printing.specs.Printing.{decimal, Puts}
 use Rattle.printing.proofs.Digits.{length-decimal}
-use Rattle.transcript.specs.Work.{Wrote}
-use Rattle.transcript.proofs.Placed.{placed, kept, wrote-then}
+use Rattle.transcript.proofs.Placed.{two}
 use borrow.Author.Needs.{needs}
 use Rattle.transcript.proofs.put_field.Statement.{statement}
 use Rattle.transcript.proofs.put_field.Tie as tie
@@ -23,9 +15,7 @@ same-length : tie.Need-same-length
 same-length c = search needs
 
 returns : tie.Need-returns
-returns c =
-    let s = c .before .before .before .before .before .before .before .before .before .before in
-    ?
+returns c = let s = c .before .before .before .before .before .before .before .before .before .before in two (c .before .before .before .before .before .before .put-bytes .ensures) (c .before .before .put-number .ensures) (s .pre) (length-decimal (s .args .n) (s .fits .n .fits))
 
 pub put-field-spec : {M : Type 1} → statement M
 put-field-spec = tie.close (tie.spec put-bytes-requires put-number-requires same-length returns)
