@@ -2,8 +2,11 @@
 -- Assumes nothing.
 use Prim.Native.Nat.{ℕ, zero, suc, _+_, _≤_, _<_}
 use native.Mathlib.Omega.{arith}
-use mathlib.Core.Path.{_≡_, refl, sym, ap, _∙_}
-use mathlib.Core.Bool.{Bool, true, false, _||_}
+use mathlib.Core.Path.{_≡_, refl}
+use mathlib.Core.Bool.{Bool, true, false, or-true}
+use lib.Dec.{eqb}
+use borrow.Author.Tests.{eqb-true, eqb-false}
+use Rattle.ledger.proofs.Cases.{decide}
 use Rattle.calendar.specs.Calendar.{total}
 use Rattle.calendar.specs.Days.{anyDay}
 
@@ -34,3 +37,10 @@ pub any-none : (p : ℕ → Bool) (n : ℕ) → ((k : ℕ) → k < n → p k ≡
 unfolding anyDay
 any-none p zero h = refl
 any-none p (suc n) h = simp (h n (omega arith)) (any-none p n (λ k b. h k (omega arith)))
+
+pub any-some : (p : ℕ → Bool) (n k : ℕ) → k < n → p k ≡ true → anyDay p n ≡ true
+unfolding anyDay
+any-some p zero k h t = absurd (omega arith)
+any-some p (suc n) k h t = decide (eqb k n)
+    (λ y. simp (rw (eqb-true k n y) at t))
+    (λ f. rw (any-some p n k (omega (arith, eqb-false k n f)) t) (or-true (p n)))

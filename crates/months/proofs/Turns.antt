@@ -1,14 +1,13 @@
 -- One turn of each loop, at the code's `n + 1`; where they start and end.
 -- Assumes nothing.
-use Prim.Native.Nat.{ℕ, zero, suc, _+_, _-_, _≤_, _<_}
+use Prim.Native.Nat.{ℕ, _+_, _-_, _≤_, _<_}
 use native.Mathlib.Omega.{arith}
 use native.Mathlib.Numerals.{add-one}
 use native.Mathlib.Nat.{add-zero}
-use mathlib.Core.Path.{_≡_, refl, sym, ap, _∙_}
-use mathlib.Core.Bool.{Bool, true, false, cond, not, _&&_, and-false}
+use mathlib.Core.Path.{_≡_, refl, ap, _∙_}
+use mathlib.Core.Bool.{Bool, true, false, cond, and-false}
 use mathlib.Core.List.{List}
 use lib.ListN.{getD}
-use lib.Dec.{ltb, leb}
 use borrow.Author.Tests.{lt-ltb, le-ltb, le-leb, lt-leb}
 use Rattle.calendar.specs.Calendar.{total}
 use Rattle.account.specs.Record.{blankDay, noPayment, costHeld}
@@ -44,9 +43,12 @@ pub paid-none : (q : ℕ → Bool) (l : List Payment) → nonePaid ≡ paidBy q 
 unfolding paidBy paymentsBy total
 paid-none q l = refl
 
-pub paid-turn : (q : ℕ → Bool) (l : List Payment) (n : ℕ) → withPayment q (paidBy q l n) (getD l n noPayment) ≡ paidBy q l (n + 1)
+paid-turn : (q : ℕ → Bool) (l : List Payment) (n : ℕ) → withPayment q (paidBy q l n) (getD l n noPayment) ≡ paidBy q l (n + 1)
 unfolding paidBy paymentsBy total withPayment
 paid-turn q l n = rw (add-one n)
+
+pub paid-again : (q : ℕ → Bool) (l : List Payment) (n : ℕ) (s r : Paid) → s ≡ paidBy q l n → r ≡ withPayment q s (getD l n noPayment) → r ≡ paidBy q l (n + 1)
+paid-again q l n s r e f = f ∙ ap (λ (x : Paid). withPayment q x (getD l n noPayment)) e ∙ paid-turn q l n
 
 -- ---- usage days
 
@@ -75,9 +77,12 @@ module _ (from to : ℕ) (l : List Day) where
   unfolding usedBy
   used-none = simp before
 
-  pub used-turn : (d : ℕ) → from ≤ d → d < to → withDay (usedBy (span from to) l d) (getD l d blankDay .usage) ≡ usedBy (span from to) l (d + 1)
+  used-turn : (d : ℕ) → from ≤ d → d < to → withDay (usedBy (span from to) l d) (getD l d blankDay .usage) ≡ usedBy (span from to) l (d + 1)
   unfolding usedBy usageBy total withDay
   used-turn d h g = simp (add-one d, le-leb from d h, lt-ltb d to g)
+
+  pub used-again : (d : ℕ) (s r : Usages) → from ≤ d → d < to → s ≡ usedBy (span from to) l d → r ≡ withDay s (getD l d blankDay .usage) → r ≡ usedBy (span from to) l (d + 1)
+  used-again d s r h g e f = f ∙ ap (λ (x : Usages). withDay x (getD l d blankDay .usage)) e ∙ used-turn d h g
 
   after : (f : Usage → ℕ) → to ≤ 400 → usageBy (span from to) f l 400 ≡ usageBy (span from to) f l to
   unfolding usageBy

@@ -1,6 +1,6 @@
 -- What the private functions answer. No promise to others cites these.
 use Prim.Native.Nat.{ℕ, _+_, _*_, _≤_}
-use mathlib.Core.Bool.{Bool, cond, not, _&&_}
+use mathlib.Core.Bool.{Bool, not, _&&_}
 use mathlib.Core.List.{List}
 use lib.Dec.{ltb, leb}
 use Rattle.ledger.specs.declared.Counted.{Counted}

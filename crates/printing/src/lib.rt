@@ -71,12 +71,12 @@ fn spell(out: &mut [u8], at: usize, last: usize, n: u64)
 pub fn put_number(out: &mut [u8], at: usize, n: u64) -> usize
     ensures { λ r. ⌜ Puts (now (out .entry)) at (decimal n) (now (out .exit)) r ⌝ }
 {
-    let count = places(n);
-    if !room(out.len(), at, count) {
+    let digits = places(n);
+    if !room(out.len(), at, digits) {
         return at;
     }
-    spell(out, at, at + count - 1, n);
-    at + count
+    spell(out, at, at + digits - 1, n);
+    at + digits
 }
 
 // The number without its minus.

@@ -3,3 +3,6 @@ pub mod Digits
 pub mod Words
 pub mod Values
 pub mod Dates
+pub mod Fields
+pub mod Laws
+pub mod Whole

@@ -1,10 +1,11 @@
 -- From a line's value to what was read. Assumes nothing.
-use mathlib.Core.Path.{_≡_, refl, sym, _∙_, ap}
+use mathlib.Core.Path.{_≡_, refl}
 use mathlib.Core.Bool.{Bool, true, false, cond}
 use mathlib.Core.List.{List}
 use Prim.Native.Nat.{ℕ}
+use borrow.Author.Tests.{ne-eqb}
 use Rattle.calendar.specs.declared.Date.{Date}
-use Rattle.text.specs.Text.{Read, got, broken, then, readValue, isNumber, valueFrom, readNumber, isDate, dateValue, readDate}
+use Rattle.text.specs.Text.{Read, got, broken, readValue, isNumber, valueFrom, readNumber, isDate, dateValue, readDate, kDo, sortOf, readSort}
 use Rattle.text.specs.Places.{numberOf, dateOf}
 use Rattle.text.specs.declared.Number.{Number}
 use Rattle.text.specs.declared.Number.the-variants as number
@@ -44,3 +45,17 @@ module _ (key s : List ℕ) where
     pub date-is : (d : Dated) → d ≡ dateOf v → readDate key s ≡ asDate d r
     unfolding readDate
     date-is d h = simp (e, h) (date-by (isDate v) (dateValue v) r)
+
+module _ (s : List ℕ) where
+  pub no-do : readValue kDo s ≡ broken → readSort s ≡ broken
+  unfolding readSort
+  no-do e = simp e
+
+  module _ (v r : List ℕ) (e : readValue kDo s ≡ got v r) (n : ℕ) (h : n ≡ sortOf v) where
+    pub no-word : n ≡ 0 → readSort s ≡ broken
+    unfolding readSort
+    no-word z = simp (e, ← h, z)
+
+    pub sort-is : (n ≡ 0 → ⊥) → readSort s ≡ got n r
+    unfolding readSort
+    sort-is z = simp (e, ← h, ne-eqb n 0 z)

@@ -5,7 +5,6 @@ use mathlib.Core.Bool.{Bool, true, false, cond, _&&_}
 use mathlib.Core.List.{List, [], _∷_, _++_}
 use lib.ListN.{length, getD, take, drop}
 use lib.Dec.{leb}
-use Rattle.calendar.specs.declared.Date.{Date}
 use Rattle.ledger.specs.declared.Event.{Event}
 use Rattle.text.specs.declared.Place.{Place}
 use Rattle.text.specs.declared.Place.the-variants as place
@@ -21,7 +20,7 @@ use Rattle.text.specs.declared.DateRead.{DateRead}
 use Rattle.text.specs.declared.DateRead.the-variants as date-read
 use Rattle.text.specs.declared.EventRead.{EventRead}
 use Rattle.text.specs.declared.EventRead.the-variants as event-read
-use Rattle.text.specs.Text.{Read, got, broken, equals, readLine, after, readValue, isDigit, allDigits, valueFrom, isNumber, readNumber, isDate, pair, dateValue, readDate, readSort, Field, readFields}
+use Rattle.text.specs.Text.{got, broken, equals, readLine, after, readValue, isDigit, allDigits, valueFrom, isNumber, readNumber, isDate, pair, dateValue, readDate, readSort, Field, readFields}
 
 -- the bytes from one place to the one before another
 abbrev pub part : List ℕ → ℕ → ℕ → List ℕ
@@ -55,9 +54,9 @@ abbrev pub FeedAt : List ℕ → ℕ → Place → Type 0
 FeedAt s at (place.At end) = (readLine (drop at s) ≡ got (part s at end) (drop (end + 1) s)) × (at ≤ end) × (end < length s)
 FeedAt s at place.Missing = readLine (drop at s) ≡ broken
 
--- the value of the line at a place, and the place of its line feed
+-- the value of the line at a place: where it starts and ends, and what follows the line
 abbrev pub ValueAt : List ℕ → List ℕ → ℕ → ValueRead → Type 0
-ValueAt key s at (value-read.Got from end) = (readValue key (drop at s) ≡ got (part s from end) (drop (end + 1) s)) × (from ≤ end) × (end < length s)
+ValueAt key s at (value-read.Got from end next) = (readValue key (drop at s) ≡ got (part s from end) (drop next s)) × (from ≤ end) × (end ≤ length s) × (next ≤ length s)
 ValueAt key s at value-read.Broken = readValue key (drop at s) ≡ broken
 
 abbrev pub NumberAt : List ℕ → List ℕ → ℕ → NumberRead → Type 0

@@ -7,7 +7,7 @@ ghost use mathlib.Core.Path.{_≡_};
 ghost use mathlib.Core.List.{[], _∷_};
 ghost use Prim.Native.Nat.{_+_, _≤_};
 ghost use lib.ListN.{length};
-ghost use Rattle.text.specs.Text.{TermsAt, EventAt, isDigit, same as sameBytes, sortOf, fieldsOf, eventOf, amount as amountField, number as numberField, kind as kindField, usage as usageField, wh as whField, from as fromField, to as toField};
+ghost use Rattle.text.specs.Text.{TermsAt, EventAt, isDigit, same as sameBytes, sortOf, fieldsOf, amount as amountField, number as numberField, kind as kindField, usage as usageField, wh as whField, from as fromField, to as toField};
 ghost use Rattle.text.specs.Places.{digitsOf, numberOf, pairOf, dateOf, Keyed, FeedAt, ValueAt, NumberAt, DateAt, SortAt, FieldsAt};
 
 // The terms at the start of a text and where its events start, or that they break the form.
@@ -40,9 +40,9 @@ enum Dated {
     Wrong,
 }
 
-// The value of the line at a place: its bytes are those from `from` on, and its line feed stands at `end`.
+// The value of the line at a place: its bytes are those from `from` on, its line feed stands at `end`, and `next` is what follows.
 enum ValueRead {
-    Got { from: usize, end: usize },
+    Got { from: usize, end: usize, next: usize },
     Broken,
 }
 
@@ -104,7 +104,8 @@ fn read_value(text: &[u8], at: usize, key: &[u8]) -> ValueRead
         return ValueRead::Broken;
     }
     let from = at + key.len() + 1;
-    ValueRead::Got { from, end }
+    let next = end + 1;
+    ValueRead::Got { from, end, next }
 }
 
 // ---- numbers
@@ -156,13 +157,12 @@ fn number_of(value: &[u8]) -> Number
 fn read_number(text: &[u8], at: usize, key: &[u8]) -> NumberRead
     ensures { λ r. ⌜ NumberAt (now (key .entry)) (now (text .entry)) at r ⌝ }
 {
-    let ValueRead::Got { from, end } = read_value(text, at, key) else {
+    let ValueRead::Got { from, end, next } = read_value(text, at, key) else {
         return NumberRead::Broken;
     };
     let Number::Is(value) = number_of(&text[from..end]) else {
         return NumberRead::Broken;
     };
-    let next = end + 1;
     NumberRead::Got { value, next }
 }
 
@@ -225,13 +225,12 @@ fn date_of(value: &[u8]) -> Dated
 fn read_date(text: &[u8], at: usize, key: &[u8]) -> DateRead
     ensures { λ r. ⌜ DateAt (now (key .entry)) (now (text .entry)) at r ⌝ }
 {
-    let ValueRead::Got { from, end } = read_value(text, at, key) else {
+    let ValueRead::Got { from, end, next } = read_value(text, at, key) else {
         return DateRead::Broken;
     };
     let Dated::Is(date) = date_of(&text[from..end]) else {
         return DateRead::Broken;
     };
-    let next = end + 1;
     DateRead::Got { date, next }
 }
 
@@ -241,19 +240,19 @@ fn read_date(text: &[u8], at: usize, key: &[u8]) -> DateRead
 pub fn read_terms(text: &[u8]) -> TermsRead
     ensures { λ r. ⌜ TermsAt (now (text .entry)) r ⌝ }
 {
-    let DateRead::Got { date: opened, next: after_open } = read_date(text, 0, b"open") else {
+    let DateRead::Got { date: opened, next } = read_date(text, 0, b"open") else {
         return TermsRead::Broken;
     };
-    let NumberRead::Got { value: price, next: after_price } = read_number(text, after_open, b"price") else {
+    let NumberRead::Got { value: price, next } = read_number(text, next, b"price") else {
         return TermsRead::Broken;
     };
-    let NumberRead::Got { value: connect, next: after_connect } = read_number(text, after_price, b"connect") else {
+    let NumberRead::Got { value: connect, next } = read_number(text, next, b"connect") else {
         return TermsRead::Broken;
     };
-    let NumberRead::Got { value: cutoff, next: after_cutoff } = read_number(text, after_connect, b"cutoff") else {
+    let NumberRead::Got { value: cutoff, next } = read_number(text, next, b"cutoff") else {
         return TermsRead::Broken;
     };
-    let NumberRead::Got { value: share, next } = read_number(text, after_cutoff, b"share") else {
+    let NumberRead::Got { value: share, next } = read_number(text, next, b"share") else {
         return TermsRead::Broken;
     };
     let terms = Terms { opened, price, connect, cutoff, share };
@@ -322,14 +321,13 @@ fn sort_of(value: &[u8]) -> u32
 fn read_sort(text: &[u8], at: usize) -> NumberRead
     ensures { λ r. ⌜ SortAt (now (text .entry)) at r ⌝ }
 {
-    let ValueRead::Got { from, end } = read_value(text, at, b"do") else {
+    let ValueRead::Got { from, end, next } = read_value(text, at, b"do") else {
         return NumberRead::Broken;
     };
     let value = sort_of(&text[from..end]);
     if value == 0 {
         return NumberRead::Broken;
     }
-    let next = end + 1;
     NumberRead::Got { value, next }
 }
 
@@ -435,13 +433,13 @@ fn read_reading(text: &[u8], at: usize, event: Event) -> EventRead
 fn read_mark(text: &[u8], at: usize, event: Event) -> EventRead
     ensures { λ r. ⌜ FieldsAt (kindField ∷ fromField ∷ toField ∷ []) event (now (text .entry)) at r ⌝ }
 {
-    let EventRead::Got { event: with_kind, next: after_kind } = read_kind(text, at, event) else {
+    let EventRead::Got { event: marked, next } = read_kind(text, at, event) else {
         return EventRead::Broken;
     };
-    let EventRead::Got { event: with_from, next: after_from } = read_from(text, after_kind, with_kind) else {
+    let EventRead::Got { event: dated, next } = read_from(text, next, marked) else {
         return EventRead::Broken;
     };
-    read_to(text, after_from, with_from)
+    read_to(text, next, dated)
 }
 
 // The fields that the event's sort names.
@@ -465,12 +463,12 @@ fn read_fields(text: &[u8], at: usize, event: Event) -> EventRead
 pub fn read_event(text: &[u8], at: usize) -> EventRead
     ensures { λ r. ⌜ EventAt (now (text .entry)) at r ⌝ }
 {
-    let NumberRead::Got { value: day, next: after_day } = read_day(text, at, b"day") else {
+    let NumberRead::Got { value: day, next } = read_day(text, at, b"day") else {
         return EventRead::Broken;
     };
-    let NumberRead::Got { value: sort, next: after_sort } = read_sort(text, after_day) else {
+    let NumberRead::Got { value: sort, next } = read_sort(text, next) else {
         return EventRead::Broken;
     };
     let event = Event { sort, day, amount: 0, number: 0, kind: 0, usage: 0, wh: 0, from: 0, to: 0 };
-    read_fields(text, after_sort, event)
+    read_fields(text, next, event)
 }

@@ -1,1 +1,4 @@
 mod Placed
+mod Turn
+pub mod Ledgers
+pub mod Whole

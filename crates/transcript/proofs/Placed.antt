@@ -33,9 +33,9 @@ module _ {b : List ℕ} {at : ℕ} {x after : List ℕ} {r : ℕ} where
       }
 
 -- a field and what follows it
-pub field-then : {b : List ℕ} {at : ℕ} {word digits after : List ℕ} {r : ℕ} {y last : List ℕ} {q : ℕ}
+pub field-then : {b : List ℕ} {at : ℕ} (word digits : List ℕ) {after : List ℕ} {r : ℕ} {y last : List ℕ} {q : ℕ}
     → Wrote b at (word ++ digits) after r → Wrote after r y last q → Wrote b at (word ++ (digits ++ y)) last q
-field-then {b} {at} {word} {digits} {after} {r} {y} w v = rw (sym (append-assoc word digits y)) (wrote-then w v)
+field-then word digits {y = y} w v = rw (sym (append-assoc word digits y)) (wrote-then w v)
 
 -- a word and digits, twenty at most
 pub two : {b : List ℕ} {at : ℕ} {word digits after : List ℕ} {r : ℕ} {last : List ℕ} {q : ℕ}

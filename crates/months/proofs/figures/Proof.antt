@@ -1,16 +1,11 @@
 -- `months::figures` meets its contract.
 -- Assumes nothing.
-use native.Mathlib.Omega.{arith}
 use mathlib.Core.Bool.{and-false}
 use borrow.Author.Needs.{needs}
 use borrow.Author.Tests.{le-leb, lt-leb}
 use Rattle.months.specs.Work.{figuresOf}
 use Rattle.months.proofs.figures.Statement.{statement}
 use Rattle.months.proofs.figures.Tie as tie
-use Rattle.months.proofs.figures.Reads as reads
-use Rattle.months.proofs.figures.Lts as lts
-use Rattle.months.proofs.average.Reads as average-reads
-use Rattle.months.proofs.nothing.Reads as nothing-reads
 
 array-read-delivery : tie.Need-array-read-delivery
 array-read-delivery c = search needs
@@ -49,7 +44,9 @@ average-requires c κs = search needs
 
 returns-3 : tie.Need-returns-3
 unfolding figuresOf
-returns-3 c = ?
+returns-3 c =
+    let d = c .before .before .before .before .before .before .before .before .before in
+    rw (le-leb _ _ (d .before .if1 .left), le-leb _ _ (d .if2 .left), c .average .ensures)
 
 pub figures-spec : {M : Type 1} → statement M
 figures-spec =

@@ -5,12 +5,9 @@ use mathlib.Core.Path.{_≡_}
 use native.Mathlib.Omega.{arith}
 use borrow.Author.Needs.{needs}
 use Rattle.months.specs.Work.{span, paidBy, PaidTo}
-use Rattle.months.proofs.Turns.{paid-none, paid-turn}
+use Rattle.months.proofs.Turns.{paid-none, paid-again}
 use Rattle.months.proofs.paid_in.Statement.{statement}
 use Rattle.months.proofs.paid_in.Tie as tie
-use Rattle.months.proofs.paid_in.Reads as reads
-use Rattle.months.proofs.paid_in.Lts as lts
-use Rattle.months.proofs.with_payment.Reads as with-payment-reads
 
 abbrev Inv-loop : tie.InvT-loop
 Inv-loop count from to payments s₀ n₀ s n = (n ≤ count) × (s ≡ paidBy (span from to) payments n) × PaidTo n s
@@ -40,10 +37,18 @@ loop-less : tie.Need-loop-less Inv-loop μ-loop
 loop-less c = search needs
 
 loop-again : tie.Need-loop-again Inv-loop μ-loop
-loop-again c = ?
+loop-again c =
+    let l = c .before .before .before .loop in (
+      search needs,
+      paid-again _ _ (l .n) (l .s) _ (l .inv .1) (c .with-payment .ensures .0),
+      c .with-payment .ensures .1 (l .n) (l .inv .2),
+    )
 
 returns : tie.Need-returns Inv-loop μ-loop
-returns c = ?
+returns c =
+    let l = c .before .loop in
+    let e : l .n ≡ c .before .before .args .count = omega arith in
+    rw e at (l .inv .1)
 
 pub paid-in-spec : {M : Type 1} → statement M
 paid-in-spec =

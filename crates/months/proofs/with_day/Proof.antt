@@ -2,12 +2,9 @@
 -- Assumes nothing.
 use native.Mathlib.Omega.{arith}
 use borrow.Author.Needs.{needs}
-use Rattle.months.specs.Work.{withDay}
+use Rattle.months.proofs.Turns.{day-blank, day-estimated, day-metered}
 use Rattle.months.proofs.with_day.Statement.{statement}
 use Rattle.months.proofs.with_day.Tie as tie
-use Rattle.months.proofs.with_day.Reads as reads
-use Rattle.months.proofs.with_day.Lts as lts
-use Rattle.months.proofs.with_usage.Reads as with-usage-reads
 
 enum-told : tie.Need-enum-told
 enum-told c = search needs
@@ -25,16 +22,19 @@ with-usage-requires-2 : tie.Need-with-usage-requires-2
 with-usage-requires-2 c κs = search needs
 
 returns : tie.Need-returns
-unfolding withDay
-returns c = (?, λ n h. omega arith)
+returns c = (rw (c .enum-told .given .1) (day-blank _), λ n h. omega arith)
 
 returns-2 : tie.Need-returns-2
-unfolding withDay
-returns-2 c = (?, ?)
+returns-2 c =
+    let a = c .before .before .before .before .before .before .args in
+    let e = c .with-usage .ensures .0 in
+    (rw (c .before .before .u .given .1, e) (day-estimated (a .s) _ _), λ n h. omega arith)
 
 returns-3 : tie.Need-returns-3
-unfolding withDay
-returns-3 c = (?, ?)
+returns-3 c =
+    let a = c .before .before .before .before .before .before .args in
+    let e = c .with-usage2 .ensures .0 in
+    (rw (c .before .before .u2 .given .1, e) (day-metered (a .s) _ _), λ n h. omega arith)
 
 pub with-day-spec : {M : Type 1} → statement M
 with-day-spec =

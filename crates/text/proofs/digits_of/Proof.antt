@@ -1,6 +1,6 @@
 -- `text::digits_of` meets its contract. The loop's invariant: what is left of the digits gives the same, and the number so far is within the limit.
 -- Assumes nothing.
-use Prim.Native.Nat.{_≤_, _-_, _*_, _+_}
+use Prim.Native.Nat.{_≤_, _-_}
 use mathlib.Core.Path.{_≡_, refl, sym, _∙_}
 use mathlib.Core.Bool.{true}
 use native.Mathlib.Omega.{arith}
@@ -11,9 +11,6 @@ use Rattle.text.specs.Text.{allDigits, valueFrom, isDigit}
 use Rattle.text.proofs.Digits.{digit-low, digit-high, digits-turn, no-digit, value-turn, stops-at-other, stops-above, ends}
 use Rattle.text.proofs.digits_of.Statement.{statement}
 use Rattle.text.proofs.digits_of.Tie as tie
-use Rattle.text.proofs.digits_of.Reads as reads
-use Rattle.text.proofs.digits_of.Lts as lts
-use Rattle.text.proofs.is_digit.Reads as is-digit-reads
 
 abbrev Inv-loop : tie.InvT-loop
 Inv-loop value n₀ i₀ n i = (n ≤ 4294967295) × (allDigits value ≡ allDigits (drop i value)) × (valueFrom 0 value ≡ valueFrom n (drop i value))
@@ -21,7 +18,6 @@ Inv-loop value n₀ i₀ n i = (n ≤ 4294967295) × (allDigits value ≡ allDig
 abbrev μ-loop : tie.MeasureT-loop
 μ-loop value n₀ i₀ n i = length value - i
 
--- src/lib.rt:127:5
 -- the byte is a digit
 digit : (c : tie.Else1 Inv-loop μ-loop) → isDigit (getD (c .before .before .before .before .before .before .args .value .now) (c .before .before .before .before .loop .i) 0) ≡ true
 digit c = sym (c .before .is-digit .ensures) ∙ not-false _ (c .if1 .left)
@@ -34,64 +30,51 @@ range c = (digit-low _ (digit c), digit-high _ (digit c))
 loop-holds : tie.Need-loop-holds Inv-loop μ-loop
 loop-holds c = (search needs, refl, refl)
 
--- src/lib.rt:128:20
 shared-slice-read-byte : tie.Need-shared-slice-read-byte Inv-loop μ-loop
 shared-slice-read-byte c = search needs
 
--- src/lib.rt:129:13
 is-digit-requires : tie.Need-is-digit-requires Inv-loop μ-loop
 is-digit-requires c κs = search needs
 
--- src/lib.rt:130:13
 returns : tie.Need-returns Inv-loop μ-loop
 returns c =
     let l = c .before .before .before .before .loop in
     let v = c .before .before .before .before .before .before .args .value .now in
     stops-at-other v (l .inv .1 ∙ no-digit v (l .i) (search needs) (sym (c .before .is-digit .ensures) ∙ not-true _ (c .if1 .taken)))
 
--- src/lib.rt:132:13
 mul-n : tie.Need-mul-n Inv-loop μ-loop
 mul-n c = search needs
 
--- src/lib.rt:132:23
 cast-n : tie.Need-cast-n Inv-loop μ-loop
 cast-n c = omega (arith, range c)
 
--- src/lib.rt:132:23
 sub-n : tie.Need-sub-n Inv-loop μ-loop
 sub-n c = omega (arith, range c)
 
--- src/lib.rt:132:13
 add-n : tie.Need-add-n Inv-loop μ-loop
 add-n c = omega (arith, range c)
 
--- src/lib.rt:134:13
 returns-2 : tie.Need-returns-2 Inv-loop μ-loop
 returns-2 c =
     let l = c .before .before .before .before .before .loop in
     let v = c .before .before .before .before .before .before .before .args .value .now in
     stops-above v _ _ (l .inv .2 ∙ value-turn v (l .i) (search needs) (l .n)) (c .if2 .taken)
 
--- src/lib.rt:136:9
 add-i : tie.Need-add-i Inv-loop μ-loop
 add-i c = search needs
 
--- src/lib.rt:127:5
 loop-less : tie.Need-loop-less Inv-loop μ-loop
 loop-less c = search needs
 
--- src/lib.rt:127:5
 loop-again : tie.Need-loop-again Inv-loop μ-loop
 loop-again c =
     let l = c .before .before .before .before .before .loop in
     let v = c .before .before .before .before .before .before .before .args .value .now in
     (c .if2 .left, l .inv .1 ∙ digits-turn v (l .i) (search needs) (digit (c .before)), l .inv .2 ∙ value-turn v (l .i) (search needs) (l .n))
 
--- src/lib.rt:138:16
 cast-t13 : tie.Need-cast-t13 Inv-loop μ-loop
 cast-t13 c = search needs
 
--- src/lib.rt:122:1
 returns-3 : tie.Need-returns-3 Inv-loop μ-loop
 returns-3 c =
     let l = c .before .loop in

@@ -3,15 +3,12 @@
 use Prim.Native.Nat.{_≤_, _<_, _-_}
 use mathlib.Core.Path.{_≡_, refl, _∙_}
 use mathlib.Core.List.{[], _∷_, _++_}
-use native.Mathlib.Omega.{arith}
 use lib.ListN.{length, drop}
 use borrow.Author.Needs.{needs}
 use Rattle.text.specs.Text.{after, equals}
 use Rattle.text.proofs.Lines.{key-short, key-turn, key-other, key-ends, no-equals}
 use Rattle.text.proofs.has_key.Statement.{statement}
 use Rattle.text.proofs.has_key.Tie as tie
-use Rattle.text.proofs.has_key.Reads as reads
-use Rattle.text.proofs.has_key.Lts as lts
 
 abbrev Inv-loop : tie.InvT-loop
 Inv-loop line key i₀ i = (i ≤ length key) × (length key < length line) × (after (key ++ equals ∷ []) line ≡ after (drop i key ++ equals ∷ []) (drop i line))
@@ -19,56 +16,45 @@ Inv-loop line key i₀ i = (i ≤ length key) × (length key < length line) × (
 abbrev μ-loop : tie.MeasureT-loop
 μ-loop line key i₀ i = length key - i
 
--- src/lib.rt:80:9
 returns : tie.Need-returns Inv-loop μ-loop
 returns c = let a = c .before .args in key-short (a .key .now) (a .line .now) (search needs)
 
--- src/lib.rt:83:5
 loop-holds : tie.Need-loop-holds Inv-loop μ-loop
 loop-holds c = (search needs, search needs, refl)
 
--- src/lib.rt:84:12
 shared-slice-read-if2 : tie.Need-shared-slice-read-if2 Inv-loop μ-loop
 shared-slice-read-if2 c = search needs
 
--- src/lib.rt:84:23
 shared-slice-read-if2-2 : tie.Need-shared-slice-read-if2-2 Inv-loop μ-loop
 shared-slice-read-if2-2 c = search needs
 
--- src/lib.rt:85:13
 returns-2 : tie.Need-returns-2 Inv-loop μ-loop
 returns-2 c =
     let l = c .before .before .before .before .loop in
     let a = c .before .before .before .before .before .before .args in
     l .inv .2 ∙ key-other (a .key .now) (a .line .now) (l .i) (search needs) (search needs) (c .if2 .taken)
 
--- src/lib.rt:87:9
 add-i : tie.Need-add-i Inv-loop μ-loop
 add-i c = search needs
 
--- src/lib.rt:83:5
 loop-less : tie.Need-loop-less Inv-loop μ-loop
 loop-less c = search needs
 
--- src/lib.rt:83:5
 loop-again : tie.Need-loop-again Inv-loop μ-loop
 loop-again c =
     let l = c .before .before .before .before .loop in
     let a = c .before .before .before .before .before .before .args in
     (search needs, search needs, l .inv .2 ∙ key-turn (a .key .now) (a .line .now) (l .i) (search needs) (search needs) (c .if2 .left))
 
--- src/lib.rt:89:8
 shared-slice-read-if3 : tie.Need-shared-slice-read-if3 Inv-loop μ-loop
 shared-slice-read-if3 c = search needs
 
--- src/lib.rt:90:9
 returns-3 : tie.Need-returns-3 Inv-loop μ-loop
 returns-3 c =
     let l = c .before .before .before .loop in
     let a = c .before .before .before .before .before .args in
     l .inv .2 ∙ no-equals (a .key .now) (a .line .now) (l .i) (search needs) (search needs) (c .if3 .taken)
 
--- src/lib.rt:76:1
 returns-4 : tie.Need-returns-4 Inv-loop μ-loop
 returns-4 c =
     let l = c .before .before .before .loop in

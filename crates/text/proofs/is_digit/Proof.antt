@@ -2,14 +2,10 @@
 use borrow.Author.Tests.{le-leb, lt-leb}
 use Rattle.text.proofs.is_digit.Statement.{statement}
 use Rattle.text.proofs.is_digit.Tie as tie
-use Rattle.text.proofs.is_digit.Reads as reads
-use Rattle.text.proofs.is_digit.Lts as lts
 
--- src/lib.rt:116:9
 returns : tie.Need-returns
 returns c = simp (lt-leb _ _ (c .if1 .taken))
 
--- src/lib.rt:112:1
 returns-2 : tie.Need-returns-2
 returns-2 c = simp (le-leb _ _ (c .if1 .left))
 

@@ -1,32 +1,23 @@
 -- `text::number_of` meets its contract. Assumes nothing.
-use mathlib.Core.Path.{_≡_, _∙_}
+use mathlib.Core.Path.{_∙_}
 use mathlib.Core.Logic.{inl, inr}
 use borrow.Author.Needs.{needs}
-use Rattle.text.specs.Places.{digitsOf, numberOf}
 use Rattle.text.proofs.Digits.{empty-number, leading-zero, one-digit, other-first}
 use Rattle.text.proofs.number_of.Statement.{statement}
 use Rattle.text.proofs.number_of.Tie as tie
-use Rattle.text.proofs.number_of.Reads as reads
-use Rattle.text.proofs.number_of.Lts as lts
-use Rattle.text.proofs.digits_of.Reads as digits-of-reads
 
--- src/lib.rt:146:9
 returns : tie.Need-returns
 returns c = empty-number _ (c .if1 .taken)
 
--- src/lib.rt:149:12
 shared-slice-read-if3 : tie.Need-shared-slice-read-if3
 shared-slice-read-if3 c = search needs
 
--- src/lib.rt:150:13
 returns-2 : tie.Need-returns-2
 returns-2 c = leading-zero _ (c .before .before .if2 .taken) (c .if3 .taken)
 
--- src/lib.rt:153:5
 digits-of-requires : tie.Need-digits-of-requires
 digits-of-requires c κs = search needs
 
--- src/lib.rt:142:1
 returns-3 : tie.Need-returns-3
 returns-3 c =
     c .digits-of .ensures ∙ elim (c .before .if2 .came) [

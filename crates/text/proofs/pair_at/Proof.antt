@@ -1,7 +1,7 @@
 -- `text::pair_at` meets its contract. Assumes nothing.
 use Prim.Native.Nat.{ℕ, _+_, _≤_}
 use mathlib.Core.Path.{_≡_, sym, _∙_}
-use mathlib.Core.Bool.{true, false, and-false}
+use mathlib.Core.Bool.{true, and-false}
 use native.Mathlib.Omega.{arith}
 use lib.ListN.{getD}
 use borrow.Author.Needs.{needs}
@@ -10,9 +10,6 @@ use Rattle.text.specs.Text.{isDigit}
 use Rattle.text.proofs.Digits.{digit-low, digit-high}
 use Rattle.text.proofs.pair_at.Statement.{statement}
 use Rattle.text.proofs.pair_at.Tie as tie
-use Rattle.text.proofs.pair_at.Reads as reads
-use Rattle.text.proofs.pair_at.Lts as lts
-use Rattle.text.proofs.is_digit.Reads as is-digit-reads
 
 abbrev first : tie.Start → ℕ
 first s = getD (s .args .value .now) (s .args .i) 0
@@ -29,59 +26,45 @@ second-digit c = sym (c .before .is-digit2 .ensures) ∙ not-false _ (c .if2 .le
 range : (c : tie.Else2) → let s = c .before .before .before .before .before .before .before in (48 ≤ first s) × (first s ≤ 57) × (48 ≤ second s) × (second s ≤ 57)
 range c = (digit-low _ (first-digit (c .before .before)), digit-high _ (first-digit (c .before .before)), digit-low _ (second-digit c), digit-high _ (second-digit c))
 
--- src/lib.rt:183:17
 shared-slice-read-first : tie.Need-shared-slice-read-first
 shared-slice-read-first c = search needs
 
--- src/lib.rt:184:24
 add-second : tie.Need-add-second
 add-second c = search needs
 
--- src/lib.rt:184:18
 shared-slice-read-second : tie.Need-shared-slice-read-second
 shared-slice-read-second c = search needs
 
--- src/lib.rt:185:9
 is-digit-requires : tie.Need-is-digit-requires
 is-digit-requires c κs = search needs
 
--- src/lib.rt:186:9
 returns : tie.Need-returns
 returns c = simp (sym (c .before .is-digit .ensures) ∙ not-true _ (c .if1 .taken))
 
--- src/lib.rt:188:9
 is-digit-requires-2 : tie.Need-is-digit-requires-2
 is-digit-requires-2 c κs = search needs
 
--- src/lib.rt:189:9
 returns-2 : tie.Need-returns-2
 returns-2 c = simp (sym (c .before .is-digit2 .ensures) ∙ not-true _ (c .if2 .taken), and-false)
 
--- src/lib.rt:191:16
 cast-tens : tie.Need-cast-tens
 cast-tens c = omega (arith, range c)
 
--- src/lib.rt:191:16
 sub-tens : tie.Need-sub-tens
 sub-tens c = omega (arith, range c)
 
--- src/lib.rt:192:17
 cast-units : tie.Need-cast-units
 cast-units c = omega (arith, range c)
 
--- src/lib.rt:192:17
 sub-units : tie.Need-sub-units
 sub-units c = omega (arith, range c)
 
--- src/lib.rt:193:16
 mul-t13 : tie.Need-mul-t13
 mul-t13 c = omega (arith, range c)
 
--- src/lib.rt:193:16
 add-t14 : tie.Need-add-t14
 add-t14 c = omega (arith, range c)
 
--- src/lib.rt:179:1
 returns-3 : tie.Need-returns-3
 returns-3 c = simp (first-digit (c .before .before), second-digit c)
 

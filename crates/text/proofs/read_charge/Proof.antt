@@ -1,34 +1,34 @@
+-- `text::read_charge` meets its contract. Assumes nothing.
+use mathlib.Core.Path.{subst}
+use mathlib.Core.List.{[], _∷_}
 use borrow.Author.Needs.{needs}
+use Rattle.text.specs.Text.{kind, amount}
+use Rattle.text.specs.Places.{FieldsAt}
+use Rattle.text.proofs.Fields.{first-none, first-then}
 use Rattle.text.proofs.read_charge.Statement.{statement}
 use Rattle.text.proofs.read_charge.Tie as tie
-use Rattle.text.proofs.read_charge.Reads as reads
-use Rattle.text.proofs.read_charge.Lts as lts
-use Rattle.text.proofs.read_amount.Reads as read-amount-reads
-use Rattle.text.proofs.read_kind.Reads as read-kind-reads
 
--- src/lib.rt:418:42
 read-kind-requires : tie.Need-read-kind-requires
 read-kind-requires c κs = search needs
 
--- src/lib.rt:418:26
 enum-known-event : tie.Need-enum-known-event
 enum-known-event c = search needs
 
--- src/lib.rt:419:9
 enum-told : tie.Need-enum-told
 enum-told c = search needs
 
--- src/lib.rt:419:9
 returns : tie.Need-returns
-returns c = ?
+returns c =
+    let a = c .before .before .before .before .args in
+    first-none kind (a .event) (a .text .now) (a .at) _ (subst (FieldsAt (kind ∷ []) _ _ _) (c .enum-told .given .1) (c .before .before .read-kind .ensures))
 
--- src/lib.rt:421:5
 read-amount-requires : tie.Need-read-amount-requires
 read-amount-requires c κs = search needs
 
--- src/lib.rt:415:1
 returns-2 : tie.Need-returns-2
-returns-2 c = ?
+returns-2 c =
+    let a = c .before .before .before .before .before .before .args in
+    first-then kind (a .event) (a .text .now) (a .at) (amount ∷ []) _ _ (subst (FieldsAt (kind ∷ []) _ _ _) (c .before .before .event .given .1) (c .before .before .before .before .read-kind .ensures)) (c .read-amount .result) (c .read-amount .ensures)
 
 pub read-charge-spec : {M : Type 1} → statement M
 read-charge-spec =

@@ -1,62 +1,55 @@
+-- `text::read_date` meets its contract. Assumes nothing.
+use mathlib.Core.Path.{sym, _∙_, subst}
+use native.Mathlib.Omega.{arith}
 use borrow.Author.Needs.{needs}
+use Rattle.text.specs.Places.{ValueAt}
+use Rattle.text.specs.declared.ValueRead.the-variants.{Got}
+use Rattle.text.specs.declared.Dated.the-variants.{Is, Wrong}
+use Rattle.text.proofs.Values.{no-date, date-is}
 use Rattle.text.proofs.read_date.Statement.{statement}
 use Rattle.text.proofs.read_date.Tie as tie
-use Rattle.text.proofs.read_date.Reads as reads
-use Rattle.text.proofs.read_date.Lts as lts
-use Rattle.text.proofs.date_of.Reads as date-of-reads
-use Rattle.text.proofs.read_value.Reads as read-value-reads
 
--- src/lib.rt:226:40
+-- the value
+valued : (c : tie.After-from) → let a = c .before .before .before .before .before .args in ValueAt (a .key .now) (a .text .now) (a .at) (Got (c .from .given .0 .0) (c .from .given .0 .1 .0) (c .from .given .0 .1 .1 .0))
+valued c = subst (ValueAt _ _ _) (c .from .given .1) (c .before .before .read-value .ensures)
+
 read-value-requires : tie.Need-read-value-requires
 read-value-requires c κs = search needs
 
--- src/lib.rt:226:26
 enum-known-from : tie.Need-enum-known-from
 enum-known-from c = search needs
 
--- src/lib.rt:227:9
 enum-told : tie.Need-enum-told
 enum-told c = search needs
 
--- src/lib.rt:227:9
 returns : tie.Need-returns
-returns c = ?
+returns c = no-date _ _ (subst (ValueAt _ _ _) (c .enum-told .given .1) (c .before .before .read-value .ensures))
 
--- src/lib.rt:229:35
 sub-date-of : tie.Need-sub-date-of
-sub-date-of c = ?
+sub-date-of c = omega (arith, valued (c .before))
 
--- src/lib.rt:229:35
 part-date-of-start : tie.Need-part-date-of-start
-part-date-of-start c = ?
+part-date-of-start c = omega (arith, valued (c .before))
 
--- src/lib.rt:229:35
 part-date-of-end : tie.Need-part-date-of-end
-part-date-of-end c = ?
+part-date-of-end c = omega (arith, valued (c .before))
 
--- src/lib.rt:229:27
 date-of-requires : tie.Need-date-of-requires
 date-of-requires c κs = search needs
 
--- src/lib.rt:229:19
 enum-known-date : tie.Need-enum-known-date
 enum-known-date c = search needs
 
--- src/lib.rt:230:9
 enum-told-2 : tie.Need-enum-told-2
 enum-told-2 c = search needs
 
--- src/lib.rt:230:9
 returns-2 : tie.Need-returns-2
-returns-2 c = ?
+returns-2 c = date-is _ _ _ _ (valued (c .before .before .before .before .before) .0) Wrong (sym (c .enum-told2 .given .1) ∙ c .before .before .date-of .ensures)
 
--- src/lib.rt:232:16
-add-next : tie.Need-add-next
-add-next c = ?
-
--- src/lib.rt:223:1
 returns-3 : tie.Need-returns-3
-returns-3 c = ?
+returns-3 c =
+    let v = valued (c .before .before .before .before .before .before) in
+    (date-is _ _ _ _ (v .0) (Is (c .before .date .given .0 .0)) (sym (c .before .date .given .1) ∙ c .before .before .before .date-of .ensures), v .3)
 
 pub read-date-spec : {M : Type 1} → statement M
 read-date-spec =
@@ -73,5 +66,4 @@ read-date-spec =
     enum-known-date
     enum-told-2
     returns-2
-    add-next
     returns-3)

@@ -1,55 +1,61 @@
+-- `text::read_event` meets its contract. Assumes nothing.
+use mathlib.Core.Path.{subst}
 use borrow.Author.Needs.{needs}
+use Rattle.text.specs.Text.{kDay}
+use Rattle.text.specs.Places.{NumberAt, SortAt}
+use Rattle.text.specs.declared.NumberRead.the-variants.{Got}
+use Rattle.text.proofs.Whole.{no-day, no-sort, whole-event}
 use Rattle.text.proofs.read_event.Statement.{statement}
 use Rattle.text.proofs.read_event.Tie as tie
-use Rattle.text.proofs.read_event.Reads as reads
-use Rattle.text.proofs.read_event.Lts as lts
-use Rattle.text.proofs.read_day.Reads as read-day-reads
-use Rattle.text.proofs.read_fields.Reads as read-fields-reads
-use Rattle.text.proofs.read_sort.Reads as read-sort-reads
 
--- src/lib.rt:466:78
+-- the day, and the sort
+day : (c : tie.After-day) → let a = c .before .before .before .before .before .args in NumberAt kDay (a .text .now) (a .at) (Got (c .day .given .0 .0) (c .day .given .0 .1 .0))
+day c = subst (NumberAt kDay _ _) (c .day .given .1) (c .before .before .read-day .ensures)
+
+sort : (c : tie.After-sort) → let d = c .before .before .before .before in SortAt (d .before .before .before .before .before .args .text .now) (d .day .given .0 .1 .0) (Got (c .sort .given .0 .0) (c .sort .given .0 .1 .0))
+sort c = subst (SortAt _ _) (c .sort .given .1) (c .before .before .read-sort .ensures)
+
 slice-aggregate-read-day : tie.Need-slice-aggregate-read-day
 slice-aggregate-read-day c = search needs
 
--- src/lib.rt:466:59
 read-day-requires : tie.Need-read-day-requires
 read-day-requires c κs = search needs
 
--- src/lib.rt:466:34
 enum-known-day : tie.Need-enum-known-day
 enum-known-day c = search needs
 
--- src/lib.rt:467:9
 enum-told : tie.Need-enum-told
 enum-told c = search needs
 
--- src/lib.rt:467:9
 returns : tie.Need-returns
-returns c = ?
+returns c =
+    let a = c .before .before .before .before .before .args in
+    no-day (a .text .now) (a .at) (subst (NumberAt kDay _ _) (c .enum-told .given .1) (c .before .before .read-day .ensures))
 
--- src/lib.rt:469:61
 read-sort-requires : tie.Need-read-sort-requires
 read-sort-requires c κs = search needs
 
--- src/lib.rt:469:34
 enum-known-sort : tie.Need-enum-known-sort
 enum-known-sort c = search needs
 
--- src/lib.rt:470:9
 enum-told-2 : tie.Need-enum-told-2
 enum-told-2 c = search needs
 
--- src/lib.rt:470:9
 returns-2 : tie.Need-returns-2
-returns-2 c = ?
+returns-2 c =
+    let d = c .before .before .before .before in
+    let a = d .before .before .before .before .before .args in
+    no-sort (a .text .now) (a .at) _ _ (day d) (subst (SortAt _ _) (c .enum-told2 .given .1) (c .before .before .read-sort .ensures))
 
--- src/lib.rt:473:5
 read-fields-requires : tie.Need-read-fields-requires
-read-fields-requires c κs = ?
+read-fields-requires c κs = sort (c .before) .1
 
--- src/lib.rt:463:1
 returns-3 : tie.Need-returns-3
-returns-3 c = ?
+returns-3 c =
+    let s = c .before .before in
+    let d = s .before .before .before .before in
+    let a = d .before .before .before .before .before .args in
+    whole-event (a .text .now) (a .at) _ _ (day d) _ _ (sort s) (c .read-fields .result) (c .read-fields .ensures)
 
 pub read-event-spec : {M : Type 1} → statement M
 read-event-spec =

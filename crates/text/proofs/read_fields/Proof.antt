@@ -1,70 +1,93 @@
+-- `text::read_fields` meets its contract: each arm by the fields of its sort. Assumes nothing.
+use Prim.Native.Nat.{_≤_, _<_}
+use mathlib.Core.Path.{_≡_, sym, subst}
+use mathlib.Core.List.{List, []}
+use mathlib.Core.Logic.{inl, inr}
+use native.Mathlib.Omega.{arith}
 use borrow.Author.Needs.{needs}
+use Rattle.text.specs.Text.{Field, fieldsOf}
+use Rattle.text.specs.Places.{FieldsAt}
+use Rattle.text.specs.declared.EventRead.{EventRead}
+use Rattle.text.specs.declared.EventRead.the-variants.{Got}
+use Rattle.text.proofs.Fields.{of-amount, of-number, of-charge, of-reading, of-mark, of-plan, of-none, nothing}
 use Rattle.text.proofs.read_fields.Statement.{statement}
 use Rattle.text.proofs.read_fields.Tie as tie
-use Rattle.text.proofs.read_fields.Reads as reads
-use Rattle.text.proofs.read_fields.Lts as lts
-use Rattle.text.proofs.read_amount.Reads as read-amount-reads
-use Rattle.text.proofs.read_charge.Reads as read-charge-reads
-use Rattle.text.proofs.read_kind.Reads as read-kind-reads
-use Rattle.text.proofs.read_mark.Reads as read-mark-reads
-use Rattle.text.proofs.read_ordinal.Reads as read-ordinal-reads
-use Rattle.text.proofs.read_reading.Reads as read-reading-reads
 
--- src/lib.rt:452:18
+-- an arm's answer, where its fields are the sort's
+by : (c : tie.Start) (fs : List Field) (r : EventRead) → fieldsOf (c .args .event .sort) ≡ fs → FieldsAt fs (c .args .event) (c .args .text .now) (c .args .at) r
+    → FieldsAt (fieldsOf (c .args .event .sort)) (c .args .event) (c .args .text .now) (c .args .at) r
+by c fs r e h = subst (λ (l : List Field). FieldsAt l (c .args .event) (c .args .text .now) (c .args .at) r) (sym e) h
+
+-- the sorts with no field
+none : (c : tie.At-match-rest) → (5 ≤ c .before .before .args .event .sort → c .before .before .args .event .sort < 7 → ⊥) → fieldsOf (c .before .before .args .event .sort) ≡ []
+none c out =
+    let r = c .match .rest in
+    of-none (c .before .before .args .event .sort)
+    (λ z. r .0 .0 .0 .0 .1 (inl z))
+    (r .0 .0 .0 .1)
+    (λ z. r .0 .0 .0 .0 .1 (inr z))
+    (r .0 .0 .1)
+    (λ z. out (omega arith) (omega arith))
+    (λ z. out (omega arith) (omega arith))
+    (r .0 .1)
+    (r .1)
+
+-- the two sorts of readings are what is left below 7
+low : (c : tie.At-match-rest) → 1 ≤ c .before .before .args .event .sort → 5 ≤ c .before .before .args .event .sort
+low c h =
+    let r = c .match .rest in
+    let n = c .before .before .args .event .sort in
+    let one : n ≡ 1 → ⊥ = λ z. r .0 .0 .0 .0 .1 (inl z) in
+    let two : n ≡ 2 → ⊥ = r .0 .0 .0 .1 in
+    let three : n ≡ 3 → ⊥ = λ z. r .0 .0 .0 .0 .1 (inr z) in
+    let four : n ≡ 4 → ⊥ = r .0 .0 .1 in
+    omega arith
+
 read-amount-requires : tie.Need-read-amount-requires
 read-amount-requires c κs = search needs
 
--- src/lib.rt:453:14
 read-ordinal-requires : tie.Need-read-ordinal-requires
 read-ordinal-requires c κs = search needs
 
--- src/lib.rt:454:14
 read-charge-requires : tie.Need-read-charge-requires
 read-charge-requires c κs = search needs
 
--- src/lib.rt:456:14
 read-mark-requires : tie.Need-read-mark-requires
 read-mark-requires c κs = search needs
 
--- src/lib.rt:457:14
 read-kind-requires : tie.Need-read-kind-requires
 read-kind-requires c κs = search needs
 
--- src/lib.rt:455:18
 read-reading-requires : tie.Need-read-reading-requires
 read-reading-requires c κs = search needs
 
--- src/lib.rt:446:1
 returns : tie.Need-returns
-returns c = ?
+returns c = by (c .before .before .before) _ (c .read-amount .result) (of-amount _ (c .before .match .keys1)) (c .read-amount .ensures)
 
--- src/lib.rt:446:1
 returns-2 : tie.Need-returns-2
-returns-2 c = ?
+returns-2 c = by (c .before .before .before) _ (c .read-ordinal .result) (of-number _ (c .before .match .keys2)) (c .read-ordinal .ensures)
 
--- src/lib.rt:446:1
 returns-3 : tie.Need-returns-3
-returns-3 c = ?
+returns-3 c = by (c .before .before .before) _ (c .read-charge .result) (of-charge _ (c .before .match .keys3)) (c .read-charge .ensures)
 
--- src/lib.rt:446:1
 returns-4 : tie.Need-returns-4
-returns-4 c = ?
+returns-4 c = by (c .before .before .before) _ (c .read-mark .result) (of-mark _ (c .before .match .keys4)) (c .read-mark .ensures)
 
--- src/lib.rt:446:1
 returns-5 : tie.Need-returns-5
-returns-5 c = ?
+returns-5 c = by (c .before .before .before) _ (c .read-kind .result) (of-plan _ (c .before .match .keys5)) (c .read-kind .ensures)
 
--- src/lib.rt:446:1
 returns-6 : tie.Need-returns-6
-returns-6 c = ?
+returns-6 c = by (c .before .before .before .before .before) _ (c .read-reading .result) (of-reading _ (low (c .before .before .before) (c .before .before .if1 .left)) (c .before .if2 .taken)) (c .read-reading .ensures)
 
--- src/lib.rt:446:1
 returns-7 : tie.Need-returns-7
-returns-7 c = ?
+returns-7 c =
+    let a = c .before .before .before .args in
+    by (c .before .before .before) [] (Got (a .event) (a .at)) (none (c .before) (λ l h. omega arith)) (nothing _ _ _ (search needs))
 
--- src/lib.rt:446:1
 returns-8 : tie.Need-returns-8
-returns-8 c = ?
+returns-8 c =
+    let a = c .before .before .before .before .args in
+    by (c .before .before .before .before) [] (Got (a .event) (a .at)) (none (c .before .before) (λ l h. omega arith)) (nothing _ _ _ (search needs))
 
 pub read-fields-spec : {M : Type 1} → statement M
 read-fields-spec =

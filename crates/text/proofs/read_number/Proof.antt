@@ -1,6 +1,5 @@
 -- `text::read_number` meets its contract. Assumes nothing.
-use Prim.Native.Nat.{ℕ}
-use mathlib.Core.Path.{_≡_, sym, _∙_, subst}
+use mathlib.Core.Path.{sym, _∙_, subst}
 use native.Mathlib.Omega.{arith}
 use borrow.Author.Needs.{needs}
 use Rattle.text.specs.Places.{ValueAt}
@@ -9,68 +8,48 @@ use Rattle.text.specs.declared.Number.the-variants.{Is, Wrong}
 use Rattle.text.proofs.Values.{no-number, number-is}
 use Rattle.text.proofs.read_number.Statement.{statement}
 use Rattle.text.proofs.read_number.Tie as tie
-use Rattle.text.proofs.read_number.Reads as reads
-use Rattle.text.proofs.read_number.Lts as lts
-use Rattle.text.proofs.number_of.Reads as number-of-reads
-use Rattle.text.proofs.read_value.Reads as read-value-reads
 
 -- the value
-valued : (c : tie.After-from) → let a = c .before .before .before .before .before .args in ValueAt (a .key .now) (a .text .now) (a .at) (Got (c .from .given .0 .0) (c .from .given .0 .1 .0))
+valued : (c : tie.After-from) → let a = c .before .before .before .before .before .args in ValueAt (a .key .now) (a .text .now) (a .at) (Got (c .from .given .0 .0) (c .from .given .0 .1 .0) (c .from .given .0 .1 .1 .0))
 valued c = subst (ValueAt _ _ _) (c .from .given .1) (c .before .before .read-value .ensures)
 
--- src/lib.rt:159:40
 read-value-requires : tie.Need-read-value-requires
 read-value-requires c κs = search needs
 
--- src/lib.rt:159:26
 enum-known-from : tie.Need-enum-known-from
 enum-known-from c = search needs
 
--- src/lib.rt:160:9
 enum-told : tie.Need-enum-told
 enum-told c = search needs
 
--- src/lib.rt:160:9
 returns : tie.Need-returns
 returns c = no-number _ _ (subst (ValueAt _ _ _) (c .enum-told .given .1) (c .before .before .read-value .ensures))
 
--- src/lib.rt:162:39
 sub-number-of : tie.Need-sub-number-of
 sub-number-of c = omega (arith, valued (c .before))
 
--- src/lib.rt:162:39
 part-number-of-start : tie.Need-part-number-of-start
 part-number-of-start c = omega (arith, valued (c .before))
 
--- src/lib.rt:162:39
 part-number-of-end : tie.Need-part-number-of-end
 part-number-of-end c = omega (arith, valued (c .before))
 
--- src/lib.rt:162:29
 number-of-requires : tie.Need-number-of-requires
 number-of-requires c κs = search needs
 
--- src/lib.rt:162:20
 enum-known-value : tie.Need-enum-known-value
 enum-known-value c = search needs
 
--- src/lib.rt:163:9
 enum-told-2 : tie.Need-enum-told-2
 enum-told-2 c = search needs
 
--- src/lib.rt:163:9
 returns-2 : tie.Need-returns-2
 returns-2 c = number-is _ _ _ _ (valued (c .before .before .before .before .before) .0) Wrong (sym (c .enum-told2 .given .1) ∙ c .before .before .number-of .ensures)
 
--- src/lib.rt:165:16
-add-next : tie.Need-add-next
-add-next c = omega (arith, valued (c .before .before .before .before .before .before), c .before .before .before .before .before .before .before .before .before .before .before .good)
-
--- src/lib.rt:156:1
 returns-3 : tie.Need-returns-3
 returns-3 c =
     let v = valued (c .before .before .before .before .before .before) in
-    (number-is _ _ _ _ (v .0) (Is (c .before .value .given .0 .0)) (sym (c .before .value .given .1) ∙ c .before .before .before .number-of .ensures), omega (arith, v))
+    (number-is _ _ _ _ (v .0) (Is (c .before .value .given .0 .0)) (sym (c .before .value .given .1) ∙ c .before .before .before .number-of .ensures), v .3)
 
 pub read-number-spec : {M : Type 1} → statement M
 read-number-spec =
@@ -87,5 +66,4 @@ read-number-spec =
     enum-known-value
     enum-told-2
     returns-2
-    add-next
     returns-3)

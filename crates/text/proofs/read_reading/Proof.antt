@@ -1,34 +1,34 @@
+-- `text::read_reading` meets its contract. Assumes nothing.
+use mathlib.Core.Path.{subst}
+use mathlib.Core.List.{[], _∷_}
 use borrow.Author.Needs.{needs}
+use Rattle.text.specs.Text.{usage, wh}
+use Rattle.text.specs.Places.{FieldsAt}
+use Rattle.text.proofs.Fields.{first-none, first-then}
 use Rattle.text.proofs.read_reading.Statement.{statement}
 use Rattle.text.proofs.read_reading.Tie as tie
-use Rattle.text.proofs.read_reading.Reads as reads
-use Rattle.text.proofs.read_reading.Lts as lts
-use Rattle.text.proofs.read_usage.Reads as read-usage-reads
-use Rattle.text.proofs.read_wh.Reads as read-wh-reads
 
--- src/lib.rt:427:42
 read-usage-requires : tie.Need-read-usage-requires
 read-usage-requires c κs = search needs
 
--- src/lib.rt:427:26
 enum-known-event : tie.Need-enum-known-event
 enum-known-event c = search needs
 
--- src/lib.rt:428:9
 enum-told : tie.Need-enum-told
 enum-told c = search needs
 
--- src/lib.rt:428:9
 returns : tie.Need-returns
-returns c = ?
+returns c =
+    let a = c .before .before .before .before .args in
+    first-none usage (a .event) (a .text .now) (a .at) _ (subst (FieldsAt (usage ∷ []) _ _ _) (c .enum-told .given .1) (c .before .before .read-usage .ensures))
 
--- src/lib.rt:430:5
 read-wh-requires : tie.Need-read-wh-requires
 read-wh-requires c κs = search needs
 
--- src/lib.rt:424:1
 returns-2 : tie.Need-returns-2
-returns-2 c = ?
+returns-2 c =
+    let a = c .before .before .before .before .before .before .args in
+    first-then usage (a .event) (a .text .now) (a .at) (wh ∷ []) _ _ (subst (FieldsAt (usage ∷ []) _ _ _) (c .before .before .event .given .1) (c .before .before .before .before .read-usage .ensures)) (c .read-wh .result) (c .read-wh .ensures)
 
 pub read-reading-spec : {M : Type 1} → statement M
 read-reading-spec =

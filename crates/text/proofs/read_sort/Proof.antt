@@ -1,58 +1,52 @@
+-- `text::read_sort` meets its contract. Assumes nothing.
+use mathlib.Core.Path.{subst}
+use native.Mathlib.Omega.{arith}
 use borrow.Author.Needs.{needs}
+use Rattle.text.specs.Text.{kDo}
+use Rattle.text.specs.Places.{ValueAt}
+use Rattle.text.specs.declared.ValueRead.the-variants.{Got}
+use Rattle.text.proofs.Values.{no-do, no-word, sort-is}
 use Rattle.text.proofs.read_sort.Statement.{statement}
 use Rattle.text.proofs.read_sort.Tie as tie
-use Rattle.text.proofs.read_sort.Reads as reads
-use Rattle.text.proofs.read_sort.Lts as lts
-use Rattle.text.proofs.read_value.Reads as read-value-reads
-use Rattle.text.proofs.sort_of.Reads as sort-of-reads
 
--- src/lib.rt:323:61
+-- the value
+valued : (c : tie.After-from) → let a = c .before .before .before .before .before .args in ValueAt kDo (a .text .now) (a .at) (Got (c .from .given .0 .0) (c .from .given .0 .1 .0) (c .from .given .0 .1 .1 .0))
+valued c = subst (ValueAt _ _ _) (c .from .given .1) (c .before .before .read-value .ensures)
+
 slice-aggregate-read-value : tie.Need-slice-aggregate-read-value
 slice-aggregate-read-value c = search needs
 
--- src/lib.rt:323:40
 read-value-requires : tie.Need-read-value-requires
 read-value-requires c κs = search needs
 
--- src/lib.rt:323:26
 enum-known-from : tie.Need-enum-known-from
 enum-known-from c = search needs
 
--- src/lib.rt:324:9
 enum-told : tie.Need-enum-told
 enum-told c = search needs
 
--- src/lib.rt:324:9
 returns : tie.Need-returns
-returns c = ?
+returns c = no-do _ (subst (ValueAt _ _ _) (c .enum-told .given .1) (c .before .before .read-value .ensures))
 
--- src/lib.rt:326:25
 sub-sort-of : tie.Need-sub-sort-of
-sub-sort-of c = ?
+sub-sort-of c = omega (arith, valued (c .before))
 
--- src/lib.rt:326:25
 part-sort-of-start : tie.Need-part-sort-of-start
-part-sort-of-start c = ?
+part-sort-of-start c = omega (arith, valued (c .before))
 
--- src/lib.rt:326:25
 part-sort-of-end : tie.Need-part-sort-of-end
-part-sort-of-end c = ?
+part-sort-of-end c = omega (arith, valued (c .before))
 
--- src/lib.rt:326:9
 sort-of-requires : tie.Need-sort-of-requires
 sort-of-requires c κs = search needs
 
--- src/lib.rt:328:9
 returns-2 : tie.Need-returns-2
-returns-2 c = ?
+returns-2 c = no-word _ _ _ (valued (c .before .before .before .before) .0) _ (c .before .sort-of .ensures) (c .if1 .taken)
 
--- src/lib.rt:330:16
-add-next : tie.Need-add-next
-add-next c = ?
-
--- src/lib.rt:320:1
 returns-3 : tie.Need-returns-3
-returns-3 c = ?
+returns-3 c =
+    let v = valued (c .before .before .before .before) in
+    (sort-is _ _ _ (v .0) _ (c .before .sort-of .ensures) (c .if1 .left), v .3)
 
 pub read-sort-spec : {M : Type 1} → statement M
 read-sort-spec =
@@ -68,5 +62,4 @@ read-sort-spec =
     part-sort-of-end
     sort-of-requires
     returns-2
-    add-next
     returns-3)

@@ -1,6 +1,6 @@
 -- `text::read_value` meets its contract. Assumes nothing.
-use Prim.Native.Nat.{ℕ, _+_, _-_, _≤_, _<_}
-use mathlib.Core.Path.{_≡_, _∙_, subst}
+use Prim.Native.Nat.{ℕ, _+_, _-_, _≤_}
+use mathlib.Core.Path.{_≡_, subst}
 use mathlib.Core.Bool.{Bool, true, false}
 use mathlib.Core.List.{List}
 use native.Mathlib.Omega.{arith}
@@ -12,10 +12,6 @@ use Rattle.text.specs.declared.Place.the-variants.{At}
 use Rattle.text.proofs.Lines.{no-line, no-key, value-is, part-drop, part-length}
 use Rattle.text.proofs.read_value.Statement.{statement}
 use Rattle.text.proofs.read_value.Tie as tie
-use Rattle.text.proofs.read_value.Reads as reads
-use Rattle.text.proofs.read_value.Lts as lts
-use Rattle.text.proofs.has_key.Reads as has-key-reads
-use Rattle.text.proofs.line_end.Reads as line-end-reads
 
 abbrev end : tie.After-end → ℕ
 end c = c .end .given .0 .0
@@ -42,56 +38,47 @@ fits c =
     let e : length (part (text l) (start l .args .at) (end l)) ≡ end l - start l .args .at = part-length _ _ _ (found l .1) (omega (arith, found l)) in
     omega (arith, found l)
 
--- src/lib.rt:99:26
 line-end-requires : tie.Need-line-end-requires
 line-end-requires c κs = search needs
 
--- src/lib.rt:99:19
 enum-known-end : tie.Need-enum-known-end
 enum-known-end c = search needs
 
--- src/lib.rt:100:9
 enum-told : tie.Need-enum-told
 enum-told c = search needs
 
--- src/lib.rt:100:9
 returns : tie.Need-returns
 returns c = no-line _ _ (subst (FeedAt _ _) (c .enum-told .given .1) (c .before .before .line-end .ensures))
 
--- src/lib.rt:102:16
 sub-line : tie.Need-sub-line
 sub-line c = omega (arith, found (c .before))
 
--- src/lib.rt:102:16
 part-line-start : tie.Need-part-line-start
 part-line-start c = omega (arith, found (c .before))
 
--- src/lib.rt:102:16
 part-line-end : tie.Need-part-line-end
 part-line-end c = omega (arith, found (c .before))
 
--- src/lib.rt:103:9
 has-key-requires : tie.Need-has-key-requires
 has-key-requires c κs = search needs
 
--- src/lib.rt:104:9
 returns-2 : tie.Need-returns-2
 returns-2 c = no-key _ _ _ _ (found (c .before .before .before .before) .0) (keyed (c .before) false (not-true _ (c .if1 .taken)))
 
--- src/lib.rt:106:16
 add-from : tie.Need-add-from
 add-from c = omega (arith, fits c, found (c .before .before .before .before))
 
--- src/lib.rt:106:16
 add-from-2 : tie.Need-add-from-2
 add-from-2 c = omega (arith, fits c, found (c .before .before .before .before))
 
--- src/lib.rt:96:1
+add-next : tie.Need-add-next
+add-next c = omega (arith, fits c, found (c .before .before .before .before), c .before .before .before .before .before .before .before .before .before .good)
+
 returns-3 : tie.Need-returns-3
 returns-3 c =
     let l = c .before .before .before .before in
     let k = keyed (c .before) true (not-false _ (c .if1 .left)) in
-    (rw (← part-drop) (value-is _ _ _ _ _ (found l .0) (k .0)), fits c, found l .2)
+    (rw (← part-drop) (value-is _ _ _ _ _ (found l .0) (k .0)), fits c, omega (arith, found l), omega (arith, found l))
 
 pub read-value-spec : {M : Type 1} → statement M
 read-value-spec =
@@ -108,4 +95,5 @@ read-value-spec =
     returns-2
     add-from
     add-from-2
+    add-next
     returns-3)

@@ -1,33 +1,33 @@
+-- `text::read_wh` meets its contract. Assumes nothing.
+use mathlib.Core.Path.{subst}
 use borrow.Author.Needs.{needs}
+use Rattle.text.specs.Text.{wh}
+use Rattle.text.specs.Places.{NumberAt}
+use Rattle.text.proofs.Fields.{field-none, field-is}
 use Rattle.text.proofs.read_wh.Statement.{statement}
 use Rattle.text.proofs.read_wh.Tie as tie
-use Rattle.text.proofs.read_wh.Reads as reads
-use Rattle.text.proofs.read_wh.Lts as lts
-use Rattle.text.proofs.read_number.Reads as read-number-reads
 
--- src/lib.rt:383:65
 slice-aggregate-read-number : tie.Need-slice-aggregate-read-number
 slice-aggregate-read-number c = search needs
 
--- src/lib.rt:383:43
 read-number-requires : tie.Need-read-number-requires
 read-number-requires c κs = search needs
 
--- src/lib.rt:383:27
 enum-known-value : tie.Need-enum-known-value
 enum-known-value c = search needs
 
--- src/lib.rt:384:9
 enum-told : tie.Need-enum-told
 enum-told c = search needs
 
--- src/lib.rt:384:9
 returns : tie.Need-returns
-returns c = ?
+returns c =
+    let a = c .before .before .before .before .before .args in
+    field-none wh (a .event) (a .text .now) (a .at) (subst (NumberAt _ _ _) (c .enum-told .given .1) (c .before .before .read-number .ensures))
 
--- src/lib.rt:380:1
 returns-2 : tie.Need-returns-2
-returns-2 c = ?
+returns-2 c =
+    let a = c .before .before .before .before .before .before .args in
+    field-is wh (a .event) (a .text .now) (a .at) _ _ (subst (NumberAt _ _ _) (c .before .value .given .1) (c .before .before .before .read-number .ensures))
 
 pub read-wh-spec : {M : Type 1} → statement M
 read-wh-spec =

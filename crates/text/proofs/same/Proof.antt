@@ -1,16 +1,13 @@
 -- `text::same` meets its contract. The loop's invariant: what is left of the two gives the same.
 -- Assumes nothing.
-use Prim.Native.Nat.{_≤_, _-_}
+use Prim.Native.Nat.{_-_}
 use mathlib.Core.Path.{_≡_, refl, sym, _∙_}
-use native.Mathlib.Omega.{arith}
 use lib.ListN.{length, drop}
 use borrow.Author.Needs.{needs}
 use Rattle.text.specs.Text.{same}
 use Rattle.text.proofs.Words.{other-length, same-turn, same-other, same-ends}
 use Rattle.text.proofs.same.Statement.{statement}
 use Rattle.text.proofs.same.Tie as tie
-use Rattle.text.proofs.same.Reads as reads
-use Rattle.text.proofs.same.Lts as lts
 
 abbrev Inv-loop : tie.InvT-loop
 Inv-loop value word i₀ i = (length value ≡ length word) × (same word value ≡ same (drop i word) (drop i value))
@@ -18,45 +15,36 @@ Inv-loop value word i₀ i = (length value ≡ length word) × (same word value 
 abbrev μ-loop : tie.MeasureT-loop
 μ-loop value word i₀ i = length word - i
 
--- src/lib.rt:268:9
 returns : tie.Need-returns Inv-loop μ-loop
 returns c = sym (other-length _ _ (c .if1 .taken))
 
--- src/lib.rt:271:5
 loop-holds : tie.Need-loop-holds Inv-loop μ-loop
 loop-holds c = (c .if1 .left, refl)
 
--- src/lib.rt:272:12
 shared-slice-read-if2 : tie.Need-shared-slice-read-if2 Inv-loop μ-loop
 shared-slice-read-if2 c = search needs
 
--- src/lib.rt:272:23
 shared-slice-read-if2-2 : tie.Need-shared-slice-read-if2-2 Inv-loop μ-loop
 shared-slice-read-if2-2 c = search needs
 
--- src/lib.rt:273:13
 returns-2 : tie.Need-returns-2 Inv-loop μ-loop
 returns-2 c =
     let l = c .before .before .before .before .loop in
     let a = c .before .before .before .before .before .before .args in
     sym (l .inv .1 ∙ same-other (a .word .now) (a .value .now) (l .i) (search needs) (search needs) (c .if2 .taken))
 
--- src/lib.rt:275:9
 add-i : tie.Need-add-i Inv-loop μ-loop
 add-i c = search needs
 
--- src/lib.rt:271:5
 loop-less : tie.Need-loop-less Inv-loop μ-loop
 loop-less c = search needs
 
--- src/lib.rt:271:5
 loop-again : tie.Need-loop-again Inv-loop μ-loop
 loop-again c =
     let l = c .before .before .before .before .loop in
     let a = c .before .before .before .before .before .before .args in
     (l .inv .0, l .inv .1 ∙ same-turn (a .word .now) (a .value .now) (l .i) (search needs) (search needs) (c .if2 .left))
 
--- src/lib.rt:264:1
 returns-3 : tie.Need-returns-3 Inv-loop μ-loop
 returns-3 c =
     let l = c .before .loop in

@@ -1,145 +1,193 @@
+-- `text::sort_of` meets its contract: each word in its turn. Assumes nothing.
+use mathlib.Core.Path.{_≡_, sym, _∙_}
+use mathlib.Core.Bool.{false}
+use mathlib.Core.List.{List}
+use Prim.Native.Nat.{ℕ}
 use borrow.Author.Needs.{needs}
+use Rattle.text.specs.Text.{same, sortOf, wPay, wReverse, wCredit, wCharge, wEstimate, wRead, wWarn, wMark, wPlan, wDisconnect, wConnect}
 use Rattle.text.proofs.sort_of.Statement.{statement}
 use Rattle.text.proofs.sort_of.Tie as tie
-use Rattle.text.proofs.sort_of.Reads as reads
-use Rattle.text.proofs.sort_of.Lts as lts
-use Rattle.text.proofs.same.Reads as same-reads
 
--- src/lib.rt:284:20
+-- the value, and that it is none of the words so far
+abbrev v1 : tie.Else1 → List ℕ
+v1 c = c .before .before .before .before .args .value .now
+
+abbrev v2 : tie.Else2 → List ℕ
+v2 c = v1 (c .before .before .before)
+
+abbrev v3 : tie.Else3 → List ℕ
+v3 c = v2 (c .before .before .before)
+
+abbrev v4 : tie.Else4 → List ℕ
+v4 c = v3 (c .before .before .before)
+
+abbrev v5 : tie.Else5 → List ℕ
+v5 c = v4 (c .before .before .before)
+
+abbrev v6 : tie.Else6 → List ℕ
+v6 c = v5 (c .before .before .before)
+
+abbrev v7 : tie.Else7 → List ℕ
+v7 c = v6 (c .before .before .before)
+
+abbrev v8 : tie.Else8 → List ℕ
+v8 c = v7 (c .before .before .before)
+
+abbrev v9 : tie.Else9 → List ℕ
+v9 c = v8 (c .before .before .before)
+
+abbrev v10 : tie.Else10 → List ℕ
+v10 c = v9 (c .before .before .before)
+
+abbrev v11 : tie.Else11 → List ℕ
+v11 c = v10 (c .before .before .before)
+
+no-1 : (c : tie.Else1) → same wPay (v1 c) ≡ false
+no-1 c = sym (c .before .same .ensures) ∙ c .if1 .left
+
+no-2 : (c : tie.Else2) → same wReverse (v2 c) ≡ false
+no-2 c = sym (c .before .same2 .ensures) ∙ c .if2 .left
+
+no-3 : (c : tie.Else3) → same wCredit (v3 c) ≡ false
+no-3 c = sym (c .before .same3 .ensures) ∙ c .if3 .left
+
+no-4 : (c : tie.Else4) → same wCharge (v4 c) ≡ false
+no-4 c = sym (c .before .same4 .ensures) ∙ c .if4 .left
+
+no-5 : (c : tie.Else5) → same wEstimate (v5 c) ≡ false
+no-5 c = sym (c .before .same5 .ensures) ∙ c .if5 .left
+
+no-6 : (c : tie.Else6) → same wRead (v6 c) ≡ false
+no-6 c = sym (c .before .same6 .ensures) ∙ c .if6 .left
+
+no-7 : (c : tie.Else7) → same wWarn (v7 c) ≡ false
+no-7 c = sym (c .before .same7 .ensures) ∙ c .if7 .left
+
+no-8 : (c : tie.Else8) → same wMark (v8 c) ≡ false
+no-8 c = sym (c .before .same8 .ensures) ∙ c .if8 .left
+
+no-9 : (c : tie.Else9) → same wPlan (v9 c) ≡ false
+no-9 c = sym (c .before .same9 .ensures) ∙ c .if9 .left
+
+no-10 : (c : tie.Else10) → same wDisconnect (v10 c) ≡ false
+no-10 c = sym (c .before .same10 .ensures) ∙ c .if10 .left
+
+no-11 : (c : tie.Else11) → same wConnect (v11 c) ≡ false
+no-11 c = sym (c .before .same11 .ensures) ∙ c .if11 .left
+
 slice-aggregate-same : tie.Need-slice-aggregate-same
 slice-aggregate-same c = search needs
 
--- src/lib.rt:284:8
 same-requires : tie.Need-same-requires
 same-requires c κs = search needs
 
--- src/lib.rt:285:9
 returns : tie.Need-returns
-returns c = ?
+unfolding sortOf
+returns c = simp (sym (c .before .same .ensures) ∙ c .if1 .taken)
 
--- src/lib.rt:287:20
 slice-aggregate-same-2 : tie.Need-slice-aggregate-same-2
 slice-aggregate-same-2 c = search needs
 
--- src/lib.rt:287:8
 same-requires-2 : tie.Need-same-requires-2
 same-requires-2 c κs = search needs
 
--- src/lib.rt:288:9
 returns-2 : tie.Need-returns-2
-returns-2 c = ?
+unfolding sortOf
+returns-2 c = simp (no-1 (c .before .before .before), sym (c .before .same2 .ensures) ∙ c .if2 .taken)
 
--- src/lib.rt:290:20
 slice-aggregate-same-3 : tie.Need-slice-aggregate-same-3
 slice-aggregate-same-3 c = search needs
 
--- src/lib.rt:290:8
 same-requires-3 : tie.Need-same-requires-3
 same-requires-3 c κs = search needs
 
--- src/lib.rt:291:9
 returns-3 : tie.Need-returns-3
-returns-3 c = ?
+unfolding sortOf
+returns-3 c = simp (no-1 (c .before .before .before .before .before .before), no-2 (c .before .before .before), sym (c .before .same3 .ensures) ∙ c .if3 .taken)
 
--- src/lib.rt:293:20
 slice-aggregate-same-4 : tie.Need-slice-aggregate-same-4
 slice-aggregate-same-4 c = search needs
 
--- src/lib.rt:293:8
 same-requires-4 : tie.Need-same-requires-4
 same-requires-4 c κs = search needs
 
--- src/lib.rt:294:9
 returns-4 : tie.Need-returns-4
-returns-4 c = ?
+unfolding sortOf
+returns-4 c = simp (no-1 (c .before .before .before .before .before .before .before .before .before), no-2 (c .before .before .before .before .before .before), no-3 (c .before .before .before), sym (c .before .same4 .ensures) ∙ c .if4 .taken)
 
--- src/lib.rt:296:20
 slice-aggregate-same-5 : tie.Need-slice-aggregate-same-5
 slice-aggregate-same-5 c = search needs
 
--- src/lib.rt:296:8
 same-requires-5 : tie.Need-same-requires-5
 same-requires-5 c κs = search needs
 
--- src/lib.rt:297:9
 returns-5 : tie.Need-returns-5
-returns-5 c = ?
+unfolding sortOf
+returns-5 c = simp (no-1 (c .before .before .before .before .before .before .before .before .before .before .before .before), no-2 (c .before .before .before .before .before .before .before .before .before), no-3 (c .before .before .before .before .before .before), no-4 (c .before .before .before), sym (c .before .same5 .ensures) ∙ c .if5 .taken)
 
--- src/lib.rt:299:20
 slice-aggregate-same-6 : tie.Need-slice-aggregate-same-6
 slice-aggregate-same-6 c = search needs
 
--- src/lib.rt:299:8
 same-requires-6 : tie.Need-same-requires-6
 same-requires-6 c κs = search needs
 
--- src/lib.rt:300:9
 returns-6 : tie.Need-returns-6
-returns-6 c = ?
+unfolding sortOf
+returns-6 c = simp (no-1 (c .before .before .before .before .before .before .before .before .before .before .before .before .before .before .before), no-2 (c .before .before .before .before .before .before .before .before .before .before .before .before), no-3 (c .before .before .before .before .before .before .before .before .before), no-4 (c .before .before .before .before .before .before), no-5 (c .before .before .before), sym (c .before .same6 .ensures) ∙ c .if6 .taken)
 
--- src/lib.rt:302:20
 slice-aggregate-same-7 : tie.Need-slice-aggregate-same-7
 slice-aggregate-same-7 c = search needs
 
--- src/lib.rt:302:8
 same-requires-7 : tie.Need-same-requires-7
 same-requires-7 c κs = search needs
 
--- src/lib.rt:303:9
 returns-7 : tie.Need-returns-7
-returns-7 c = ?
+unfolding sortOf
+returns-7 c = simp (no-1 (c .before .before .before .before .before .before .before .before .before .before .before .before .before .before .before .before .before .before), no-2 (c .before .before .before .before .before .before .before .before .before .before .before .before .before .before .before), no-3 (c .before .before .before .before .before .before .before .before .before .before .before .before), no-4 (c .before .before .before .before .before .before .before .before .before), no-5 (c .before .before .before .before .before .before), no-6 (c .before .before .before), sym (c .before .same7 .ensures) ∙ c .if7 .taken)
 
--- src/lib.rt:305:20
 slice-aggregate-same-8 : tie.Need-slice-aggregate-same-8
 slice-aggregate-same-8 c = search needs
 
--- src/lib.rt:305:8
 same-requires-8 : tie.Need-same-requires-8
 same-requires-8 c κs = search needs
 
--- src/lib.rt:306:9
 returns-8 : tie.Need-returns-8
-returns-8 c = ?
+unfolding sortOf
+returns-8 c = simp (no-1 (c .before .before .before .before .before .before .before .before .before .before .before .before .before .before .before .before .before .before .before .before .before), no-2 (c .before .before .before .before .before .before .before .before .before .before .before .before .before .before .before .before .before .before), no-3 (c .before .before .before .before .before .before .before .before .before .before .before .before .before .before .before), no-4 (c .before .before .before .before .before .before .before .before .before .before .before .before), no-5 (c .before .before .before .before .before .before .before .before .before), no-6 (c .before .before .before .before .before .before), no-7 (c .before .before .before), sym (c .before .same8 .ensures) ∙ c .if8 .taken)
 
--- src/lib.rt:308:20
 slice-aggregate-same-9 : tie.Need-slice-aggregate-same-9
 slice-aggregate-same-9 c = search needs
 
--- src/lib.rt:308:8
 same-requires-9 : tie.Need-same-requires-9
 same-requires-9 c κs = search needs
 
--- src/lib.rt:309:9
 returns-9 : tie.Need-returns-9
-returns-9 c = ?
+unfolding sortOf
+returns-9 c = simp (no-1 (c .before .before .before .before .before .before .before .before .before .before .before .before .before .before .before .before .before .before .before .before .before .before .before .before), no-2 (c .before .before .before .before .before .before .before .before .before .before .before .before .before .before .before .before .before .before .before .before .before), no-3 (c .before .before .before .before .before .before .before .before .before .before .before .before .before .before .before .before .before .before), no-4 (c .before .before .before .before .before .before .before .before .before .before .before .before .before .before .before), no-5 (c .before .before .before .before .before .before .before .before .before .before .before .before), no-6 (c .before .before .before .before .before .before .before .before .before), no-7 (c .before .before .before .before .before .before), no-8 (c .before .before .before), sym (c .before .same9 .ensures) ∙ c .if9 .taken)
 
--- src/lib.rt:311:20
 slice-aggregate-same-10 : tie.Need-slice-aggregate-same-10
 slice-aggregate-same-10 c = search needs
 
--- src/lib.rt:311:8
 same-requires-10 : tie.Need-same-requires-10
 same-requires-10 c κs = search needs
 
--- src/lib.rt:312:9
 returns-10 : tie.Need-returns-10
-returns-10 c = ?
+unfolding sortOf
+returns-10 c = simp (no-1 (c .before .before .before .before .before .before .before .before .before .before .before .before .before .before .before .before .before .before .before .before .before .before .before .before .before .before .before), no-2 (c .before .before .before .before .before .before .before .before .before .before .before .before .before .before .before .before .before .before .before .before .before .before .before .before), no-3 (c .before .before .before .before .before .before .before .before .before .before .before .before .before .before .before .before .before .before .before .before .before), no-4 (c .before .before .before .before .before .before .before .before .before .before .before .before .before .before .before .before .before .before), no-5 (c .before .before .before .before .before .before .before .before .before .before .before .before .before .before .before), no-6 (c .before .before .before .before .before .before .before .before .before .before .before .before), no-7 (c .before .before .before .before .before .before .before .before .before), no-8 (c .before .before .before .before .before .before), no-9 (c .before .before .before), sym (c .before .same10 .ensures) ∙ c .if10 .taken)
 
--- src/lib.rt:314:20
 slice-aggregate-same-11 : tie.Need-slice-aggregate-same-11
 slice-aggregate-same-11 c = search needs
 
--- src/lib.rt:314:8
 same-requires-11 : tie.Need-same-requires-11
 same-requires-11 c κs = search needs
 
--- src/lib.rt:315:9
 returns-11 : tie.Need-returns-11
-returns-11 c = ?
+unfolding sortOf
+returns-11 c = simp (no-1 (c .before .before .before .before .before .before .before .before .before .before .before .before .before .before .before .before .before .before .before .before .before .before .before .before .before .before .before .before .before .before), no-2 (c .before .before .before .before .before .before .before .before .before .before .before .before .before .before .before .before .before .before .before .before .before .before .before .before .before .before .before), no-3 (c .before .before .before .before .before .before .before .before .before .before .before .before .before .before .before .before .before .before .before .before .before .before .before .before), no-4 (c .before .before .before .before .before .before .before .before .before .before .before .before .before .before .before .before .before .before .before .before .before), no-5 (c .before .before .before .before .before .before .before .before .before .before .before .before .before .before .before .before .before .before), no-6 (c .before .before .before .before .before .before .before .before .before .before .before .before .before .before .before), no-7 (c .before .before .before .before .before .before .before .before .before .before .before .before), no-8 (c .before .before .before .before .before .before .before .before .before), no-9 (c .before .before .before .before .before .before), no-10 (c .before .before .before), sym (c .before .same11 .ensures) ∙ c .if11 .taken)
 
--- src/lib.rt:281:1
 returns-12 : tie.Need-returns-12
-returns-12 c = ?
+unfolding sortOf
+returns-12 c = simp (no-1 (c .before .before .before .before .before .before .before .before .before .before .before .before .before .before .before .before .before .before .before .before .before .before .before .before .before .before .before .before .before .before), no-2 (c .before .before .before .before .before .before .before .before .before .before .before .before .before .before .before .before .before .before .before .before .before .before .before .before .before .before .before), no-3 (c .before .before .before .before .before .before .before .before .before .before .before .before .before .before .before .before .before .before .before .before .before .before .before .before), no-4 (c .before .before .before .before .before .before .before .before .before .before .before .before .before .before .before .before .before .before .before .before .before), no-5 (c .before .before .before .before .before .before .before .before .before .before .before .before .before .before .before .before .before .before), no-6 (c .before .before .before .before .before .before .before .before .before .before .before .before .before .before .before), no-7 (c .before .before .before .before .before .before .before .before .before .before .before .before), no-8 (c .before .before .before .before .before .before .before .before .before), no-9 (c .before .before .before .before .before .before), no-10 (c .before .before .before), no-11 (c))
 
 pub sort-of-spec : {M : Type 1} → statement M
 sort-of-spec =

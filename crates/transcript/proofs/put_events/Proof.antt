@@ -1,81 +1,75 @@
+-- `transcript::put_events` meets its contract. Assumes nothing.
+use Prim.Native.Nat.{_-_}
+use mathlib.Core.Path.{_∙_}
+use native.Mathlib.Omega.{arith}
+use lib.ListN.{length}
+use borrow.Author.Needs.{needs}
+use denote.Ref.{now}
+use Rattle.text.specs.Text.{EventAt}
+use Rattle.text.specs.declared.EventRead.the-variants.{Got}
+use Rattle.transcript.proofs.Turn.{Going, begins, turns, stops, ends}
 use Rattle.transcript.proofs.put_events.Statement.{statement}
 use Rattle.transcript.proofs.put_events.Tie as tie
-use Rattle.transcript.proofs.put_events.Reads as reads
-use Rattle.transcript.proofs.put_events.Lts as lts
-use Rattle.account.proofs.step.Reads as step-reads
-use Rattle.text.proofs.read_event.Reads as read-event-reads
-use Rattle.transcript.proofs.put_closing.Reads as put-closing-reads
-use Rattle.transcript.proofs.put_event.Reads as put-event-reads
 
 abbrev Inv-loop : tie.InvT-loop
-Inv-loop text start out₀ b₀ at₀ n₀ place₀ out b at n place = ?
+Inv-loop text start out₀ b₀ at₀ n₀ place₀ out b at n place = Going text start b₀ out₀ out b at n place
 
 abbrev μ-loop : tie.MeasureT-loop
-μ-loop text start out₀ b₀ at₀ n₀ place₀ out b at n place = ?
+μ-loop text start out₀ b₀ at₀ n₀ place₀ out b at n place = length text - at
 
--- src/lib.rt:92:5
+-- the event that was read
+read-as : (c : tie.After-read Inv-loop μ-loop) → EventAt (now (c .before .before .before .before .before .before .before .args .text)) (c .before .before .before .before .loop .at) (Got (c .read .given .0 .0) (c .read .given .0 .1 .0))
+read-as c = rw (c .read .given .1) at (c .before .before .read-event .ensures)
+
 loop-holds : tie.Need-loop-holds Inv-loop μ-loop
-loop-holds c = ?
+loop-holds c = begins _ _ _ _ (c .before .before .pre .0)
 
--- src/lib.rt:93:13
 read-event-requires : tie.Need-read-event-requires Inv-loop μ-loop
-read-event-requires c κs = ?
+read-event-requires c κs = search needs
 
--- src/lib.rt:95:30
 enum-known-read : tie.Need-enum-known-read Inv-loop μ-loop
-enum-known-read c = ?
+enum-known-read c = search needs
 
--- src/lib.rt:96:21
 step-requires : tie.Need-step-requires Inv-loop μ-loop
-step-requires c κs = ?
+step-requires c κs = search needs
 
--- src/lib.rt:99:17
 put-event-requires : tie.Need-put-event-requires Inv-loop μ-loop
-put-event-requires c κs = ?
+put-event-requires c κs = omega (arith, c .before .before .before .before .before .before .before .before .before .before .before .before .pre, c .before .before .before .before .before .before .before .before .before .loop .inv)
 
--- src/lib.rt:101:17
 add-n : tie.Need-add-n Inv-loop μ-loop
-add-n c = ?
+add-n c = omega (arith, c .before .before .before .before .before .before .before .before .before .before .before .before .before .before .before .pre, c .before .before .before .before .before .before .before .before .before .before .before .before .loop .inv)
 
--- src/lib.rt:92:5
 loop-less : tie.Need-loop-less Inv-loop μ-loop
-loop-less c = ?
+loop-less c = let e = read-as (c .before .before .before .before .before .before .before .before) in omega (arith, e .1, e .2, c .before .before .before .before .before .before .before .before .before .before .before .loop-test .taken)
 
--- src/lib.rt:92:5
 loop-again : tie.Need-loop-again Inv-loop μ-loop
-loop-again c = ?
+loop-again c = let l = c .before .before .before .before .before .before .before .before .before .before .before .before in
+    let e = read-as (c .before .before .before .before .before .before .before .before) in
+    turns _ _ _ _ _ _ _ _ _ (l .loop .inv) _ _ _ _ _ (c .before .before .before .before .before .before .before .before .before .before .before .loop-test .taken) (e .0) (e .1) (e .2) (c .before .before .before .before .before .before .step .ensures) (c .before .before .put-event .ensures .0) (c .before .before .put-event .ensures .1)
 
--- src/lib.rt:104:21
 enum-told : tie.Need-enum-told Inv-loop μ-loop
-enum-told c = ?
+enum-told c = search needs
 
--- src/lib.rt:105:17
 put-event-requires-2 : tie.Need-put-event-requires-2 Inv-loop μ-loop
-put-event-requires-2 c κs = ?
+put-event-requires-2 c κs = omega (arith, c .before .before .before .before .before .before .before .before .before .pre, c .before .before .before .before .before .before .loop .inv)
 
--- src/lib.rt:106:17
 put-closing-requires : tie.Need-put-closing-requires Inv-loop μ-loop
-put-closing-requires c κs = ?
+put-closing-requires c κs = omega (arith, c .before .before .before .before .before .before .before .before .before .before .before .before .before .pre, c .before .before .before .before .before .before .before .before .before .before .loop .inv, c .before .before .before .put-event2 .ensures .1, c .before .before .before .put-event2 .kept .0)
 
--- src/lib.rt:106:17
 same-length : tie.Need-same-length Inv-loop μ-loop
-same-length c = ?
+same-length c = c .before .before .put-closing .kept .0 ∙ c .before .before .before .before .before .before .put-event2 .kept .0 ∙ c .before .before .before .before .before .before .before .before .before .before .before .before .before .loop .inv .sized
 
--- src/lib.rt:106:17
 returns : tie.Need-returns Inv-loop μ-loop
-returns c = ?
+returns c = stops _ _ _ _ _ _ _ _ _ (c .before .before .before .before .before .before .before .before .before .before .before .before .before .loop .inv) _ _ _ _ (c .before .before .before .before .before .before .before .before .before .before .before .before .loop-test .taken) (rw (c .before .before .before .before .before .before .before .before .before .enum-told .given .1) at (c .before .before .before .before .before .before .before .before .before .before .before .read-event .ensures)) (c .before .before .before .before .before .before .put-event2 .ensures .0) (c .before .before .put-closing .ensures)
 
--- src/lib.rt:111:5
 put-closing-requires-2 : tie.Need-put-closing-requires-2 Inv-loop μ-loop
-put-closing-requires-2 c κs = ?
+put-closing-requires-2 c κs = omega (arith, c .before .before .before .before .before .before .pre, c .before .before .before .loop .inv)
 
--- src/lib.rt:84:1
 same-length-2 : tie.Need-same-length-2 Inv-loop μ-loop
-same-length-2 c = ?
+same-length-2 c = c .before .before .put-closing2 .kept .0 ∙ c .before .before .before .before .before .before .loop .inv .sized
 
--- src/lib.rt:84:1
 returns-2 : tie.Need-returns-2 Inv-loop μ-loop
-returns-2 c = ?
+returns-2 c = ends _ _ _ _ _ _ _ _ _ (c .before .before .before .before .before .before .loop .inv) _ _ (c .before .before .before .before .before .loop-test .left) (c .before .before .put-closing2 .ensures)
 
 pub put-events-spec : {M : Type 1} → statement M
 put-events-spec =

@@ -1,67 +1,73 @@
+-- `transcript::put_line` meets its contract. Assumes nothing.
+use native.Mathlib.Omega.{arith}
+use Prim.Native.Nat.{_+_, _≤_}
+use lib.ListN.{length}
+use mathlib.Core.List.{_++_}
+use Rattle.printing.specs.Printing.{decimal, signed}
+use Rattle.transcript.specs.Work.{Wrote}
+use Rattle.printing.proofs.Digits.{length-byte}
+use Rattle.transcript.specs.Transcript.{line, wN, wCode, wValue, wBalance, wPlan}
+use Rattle.transcript.proofs.Placed.{back, placed, field-then}
 use borrow.Author.Needs.{needs}
 use Rattle.transcript.proofs.put_line.Statement.{statement}
 use Rattle.transcript.proofs.put_line.Tie as tie
-use Rattle.transcript.proofs.put_line.Reads as reads
-use Rattle.transcript.proofs.put_line.Lts as lts
-use Rattle.printing.proofs.put_bytes.Reads as put-bytes-reads
-use Rattle.transcript.proofs.put_field.Reads as put-field-reads
-use Rattle.transcript.proofs.put_sum.Reads as put-sum-reads
 
--- src/lib.rt:47:38
 slice-aggregate-put-field : tie.Need-slice-aggregate-put-field
 slice-aggregate-put-field c = search needs
 
--- src/lib.rt:47:9
 put-field-requires : tie.Need-put-field-requires
 put-field-requires c κs = search needs
 
--- src/lib.rt:48:46
 slice-aggregate-put-field-2 : tie.Need-slice-aggregate-put-field-2
 slice-aggregate-put-field-2 c = search needs
 
--- src/lib.rt:48:9
 put-field-requires-2 : tie.Need-put-field-requires-2
-put-field-requires-2 c κs = ?
+put-field-requires-2 c κs = omega arith
 
--- src/lib.rt:49:50
 slice-aggregate-put-field-3 : tie.Need-slice-aggregate-put-field-3
 slice-aggregate-put-field-3 c = search needs
 
--- src/lib.rt:49:9
 put-field-requires-3 : tie.Need-put-field-requires-3
-put-field-requires-3 c κs = ?
+put-field-requires-3 c κs = omega arith
 
--- src/lib.rt:50:51
 slice-aggregate-put-sum : tie.Need-slice-aggregate-put-sum
 slice-aggregate-put-sum c = search needs
 
--- src/lib.rt:50:9
 put-sum-requires : tie.Need-put-sum-requires
-put-sum-requires c κs = ?
+put-sum-requires c κs = omega arith
 
--- src/lib.rt:51:52
 slice-aggregate-put-field-4 : tie.Need-slice-aggregate-put-field-4
 slice-aggregate-put-field-4 c = search needs
 
--- src/lib.rt:51:9
 put-field-requires-4 : tie.Need-put-field-requires-4
-put-field-requires-4 c κs = ?
+put-field-requires-4 c κs = omega arith
 
--- src/lib.rt:52:32
 slice-aggregate-put-bytes : tie.Need-slice-aggregate-put-bytes
 slice-aggregate-put-bytes c = search needs
 
--- src/lib.rt:52:5
 put-bytes-requires : tie.Need-put-bytes-requires
 put-bytes-requires c κs = search needs
 
--- src/lib.rt:42:1
 same-length : tie.Need-same-length
 same-length c = search needs
 
--- src/lib.rt:42:1
 returns : tie.Need-returns
-returns c = ?
+unfolding line
+returns c =
+    let c5 = c .before .before .before .before .before .before .before in
+    let c4 = c5 .before .before .before .before .before in
+    let c3 = c4 .before .before .before .before .before in
+    let c2 = c3 .before .before .before .before .before in
+    let c1 = c2 .before .before .before .before .before in
+    let s = c1 .before .before .before .before in
+    let feed = placed (c .before .before .put-bytes .ensures) (omega arith) in
+    let a = s .args in
+    let sum : Wrote _ _ (wBalance ++ signed (a .balance)) _ _ = rw (back (a .balance) (s .fits .balance)) at (c4 .put-sum .ensures .0) in
+    (field-then wN (decimal (a .n)) (c1 .put-field .ensures .0)
+    (field-then wCode (decimal (a .code)) (c2 .put-field2 .ensures .0)
+    (field-then wValue (decimal (a .value)) (c3 .put-field3 .ensures .0)
+    (field-then wBalance (signed (a .balance)) sum (field-then wPlan (decimal (a .plan)) (c5 .put-field4 .ensures .0) feed)))),
+    omega (arith, feed .next, c5 .put-field4 .ensures .1, c4 .put-sum .ensures .1, c3 .put-field3 .ensures .1, c2 .put-field2 .ensures .0 .next, length-byte (a .code) (s .fits .code .fits), c1 .put-field .ensures .1))
 
 pub put-line-spec : {M : Type 1} → statement M
 put-line-spec =

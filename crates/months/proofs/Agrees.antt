@@ -1,0 +1,115 @@
+-- What is read off an account is the ledger's.
+-- Assumes nothing.
+use Prim.Native.Nat.{ℕ, suc, _+_, _*_, _≤_, _<_, min}
+use native.Mathlib.Omega.{arith}
+use mathlib.Core.Path.{_≡_, refl, sym, _∙_}
+use mathlib.Core.Bool.{Bool, true, false, not, _&&_, true≢false}
+use mathlib.Core.List.{List}
+use lib.ListN.{getD}
+use lib.Dec.{leb}
+use borrow.Author.Tests.{le-leb, leb-true, leb-false, ne-eqb}
+use Rattle.calendar.specs.Calendar.{isDay, opens}
+use Rattle.calendar.specs.Days.{anyDay}
+use Rattle.calendar.proofs.Laws.{month-limit}
+use Rattle.terms.specs.Terms.{validTerms}
+use Rattle.terms.specs.declared.Terms.{Terms}
+use Rattle.ledger.specs.declared.Event.{Event}
+use Rattle.ledger.specs.Entries.{Entry, payments, payment, reversed, UsageDay, blank, estimated, metered, usageDay, estimateCost}
+use Rattle.ledger.specs.Rules.{Ledger}
+use Rattle.ledger.specs.Ledger.{opening, ledgerAfter}
+use Rattle.ledger.specs.Months.{monthOf, inMonth, hasDays, paymentsIn, isReversed, usageIn, meteredWh, meteredCost, estimatedWh, chargesIn, ledgerSummary}
+use Rattle.ledger.proofs.Cases.{decide, both}
+use Rattle.account.specs.Record.{costHeld, fresh}
+use Rattle.account.specs.declared.Usage.{Usage}
+use Rattle.account.specs.declared.Payment.{Payment}
+use Rattle.account.specs.declared.Account.{Account}
+use Rattle.posting.specs.Posting.{accountAfter}
+use Rattle.refinement.specs.Agree.{Agree, Stands, usageOf, paymentOf}
+use Rattle.refinement.proofs.Refines.{refinement-holds}
+use Rattle.readings.proofs.After.{stands-after}
+use Rattle.months.specs.Summary.{inMonthOf, paymentsBy, one, amountOf, whMetered, costMetered, whEstimated, usageBy, summaryBy, summaryOf, Made}
+use Rattle.months.proofs.Sums.{total-same, any-same, any-none}
+use Rattle.months.proofs.Numbers.{by-number, Dated, dated-after}
+
+valid-opens : (t : Terms) → validTerms t ≡ true → opens (t .opened) ≡ true
+unfolding validTerms
+valid-opens t v = both (opens (t .opened)) _ v .0
+
+module _ (t : Terms) (m : ℕ) (o : opens (t .opened) ≡ true) where
+  -- the same days
+  in-month : (k : ℕ) → k ≤ 399 → inMonthOf (t .opened) m k ≡ inMonth t m k
+  unfolding inMonthOf
+  in-month k h = simp (o, le-leb k 399 h)
+
+  has-days : anyDay (inMonthOf (t .opened) m) 400 ≡ hasDays t m
+  unfolding hasDays
+  has-days = any-same _ _ 400 (λ k h. in-month k (omega arith))
+
+  -- a month that holds one of them is at most the fourteenth
+  late : (k : ℕ) → k < 400 → 14 < m → inMonth t m k ≡ false
+  late k h g =
+      let d : isDay (t .opened) k ≡ true = simp (o, le-leb k 399 (omega arith)) in
+      ne-eqb (monthOf t k) m (λ e. omega (arith, month-limit (t .opened) k d))
+
+  month-small : hasDays t m ≡ true → m ≤ 14
+  unfolding hasDays
+  month-small y = decide (leb m 14) (leb-true m 14) (λ f. absurd (true≢false (sym y ∙ any-none _ 400 (λ k h. late k h (leb-false m 14 f)))))
+
+  module _ (a : Account) (l : Ledger) (g : Agree t a l) (d : Dated (l .list)) where
+    paid : (p : Bool → Bool) (f : Payment → ℕ) (w : Entry → ℕ) → ((n : ℕ) → f (paymentOf n (l .list)) ≡ w (payment n (l .list)))
+        → paymentsBy (inMonthOf (t .opened) m) p f (a .payments) (min (a .totals .count) 128) ≡ paymentsIn t m p w (l .list)
+    unfolding paymentsBy paymentsIn
+    paid p f w h =
+        let c : min (a .totals .count) 128 ≡ payments (l .list) = omega (arith, g .bounds .count, g .sums .count) in
+        rw c
+        (total-same _ _ (payments (l .list)) (λ n b. rw (g .kept .payments n b, in-month (payment n (l .list) .event .day) (d n), h n))
+        ∙ sym (by-number (λ (x : Entry) (n : ℕ). inMonth t m (x .event .day) && p (reversed n (l .list))) w (l .list)))
+
+    used : (f : Usage → ℕ) (w : UsageDay → ℕ) → ((u : UsageDay) → f (usageOf u) ≡ w u)
+        → usageBy (inMonthOf (t .opened) m) f (a .days) 400 ≡ usageIn t m w (l .list)
+    unfolding usageBy usageIn
+    used f w h = total-same _ _ 400 (λ u b. rw (in-month u (omega arith), g .kept .days u b, h (usageDay t (l .list) u)))
+
+    charge : (k : ℕ) → m ≤ 14 → k < 5 → getD (a .charges) (5 * m + k) 0 ≡ chargesIn t m (suc k) (l .list)
+    charge k h b = g .kept .charges m k (omega arith) b
+
+    first : m ≤ 14 → getD (a .charges) (5 * m) 0 ≡ chargesIn t m 1 (l .list)
+    first h = let e : 5 * m ≡ 5 * m + 0 = omega arith in rw e (charge 0 h (omega arith))
+
+    -- no sum is past the guard
+    small : (k : ℕ) → leb (chargesIn t m k (l .list)) 1099511627776 ≡ true
+    small k = le-leb (chargesIn t m k (l .list)) 1099511627776 (omega (arith, g .kept .charged m k, g .bounds .full, g .sums .events))
+
+    -- by the usage day's state
+    wh-metered : (u : UsageDay) → whMetered (usageOf u) ≡ meteredWh u
+    wh-metered blank = refl
+    wh-metered (estimated wh cost) = refl
+    wh-metered (metered wh cost) = refl
+
+    cost-metered : (u : UsageDay) → costMetered (usageOf u) ≡ meteredCost u
+    cost-metered blank = refl
+    cost-metered (estimated wh cost) = refl
+    cost-metered (metered wh cost) = refl
+
+    wh-estimated : (u : UsageDay) → whEstimated (usageOf u) ≡ estimatedWh u
+    wh-estimated blank = refl
+    wh-estimated (estimated wh cost) = refl
+    wh-estimated (metered wh cost) = refl
+
+    cost-estimated : (u : UsageDay) → costHeld (usageOf u) ≡ estimateCost u
+    cost-estimated blank = refl
+    cost-estimated (estimated wh cost) = refl
+    cost-estimated (metered wh cost) = refl
+
+    pub summary-is : summaryOf a m ≡ ledgerSummary t (l .list) m
+    unfolding summaryBy ledgerSummary
+    summary-is = rw (g .terms, has-days) (decide (hasDays t m)
+        (λ y. let h : m ≤ 14 = month-small y in
+        rw (y, first h, charge 1 h (omega arith), charge 2 h (omega arith), charge 3 h (omega arith), charge 4 h (omega arith), small 1, small 2, paid not one (λ (x : Entry). 1) (λ n. refl), paid not amountOf (λ (x : Entry). x .event .amount) (λ n. refl), paid isReversed one (λ (x : Entry). 1) (λ n. refl), paid isReversed amountOf (λ (x : Entry). x .event .amount) (λ n. refl), used whMetered meteredWh wh-metered, used costMetered meteredCost cost-metered, used whEstimated estimatedWh wh-estimated, used costHeld estimateCost cost-estimated))
+        (λ f. rw f))
+
+-- The summary of an account that this software made is the ledger's of the same events.
+pub summary-made : (a : Account) (m : ℕ) (t : Terms) (es : List Event) → Made a t es → summaryOf a m ≡ ledgerSummary t (ledgerAfter t opening es .list) m
+summary-made a m t es h =
+    let s : Stands t (accountAfter (fresh t) es) (ledgerAfter t opening es) = stands-after t (h .valid) es (fresh t) opening (refinement-holds t (h .valid) .opens) in
+    rw (h .account) (summary-is t m (valid-opens t (h .valid)) (accountAfter (fresh t) es) (ledgerAfter t opening es) (s .agree) (dated-after t es))

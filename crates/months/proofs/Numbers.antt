@@ -1,0 +1,68 @@
+-- The ledger's payments by their numbers: a sum over L is one over the numbers, and each payment's day is one of days 0 to 399.
+-- Assumes nothing.
+use Prim.Native.Nat.{ℕ, _≤_}
+use native.Mathlib.Omega.{arith}
+use native.Mathlib.Numerals.{add-one}
+use mathlib.Core.Path.{_≡_, refl}
+use mathlib.Core.Bool.{Bool, true, false, cond, _&&_}
+use mathlib.Core.List.{List, [], _∷_}
+use Rattle.calendar.specs.Calendar.{total}
+use Rattle.terms.specs.declared.Terms.{Terms}
+use Rattle.ledger.specs.declared.Event.{Event}
+use Rattle.ledger.specs.Event.{isPay}
+use Rattle.ledger.specs.Entries.{Entry, Entries, count, sum, find, payments, payment, hasNumber}
+use Rattle.ledger.specs.Rules.{Ledger}
+use Rattle.ledger.specs.Ledger.{opening, moveOf, accepts, ledgerStep, ledgerAfter}
+use Rattle.ledger.proofs.Cases.{decide}
+use Rattle.ledger.proofs.Accepted.{accepted-by}
+use Rattle.refinement.proofs.Fields.{payments-same, payments-one, payment-same, payment-old, payment-new}
+use Rattle.months.proofs.Sums.{total-same}
+
+module _ (q : Entry → ℕ → Bool) (f : Entry → ℕ) where
+  -- what payment n comes to
+  abbrev part : Entries → ℕ → ℕ
+  part l n = cond (q (payment n l) n) (f (payment n l)) 0
+
+  -- what the payments of L come to
+  abbrev all : Entries → ℕ
+  all l = sum (λ (x : Entry) (before : Entries). cond (isPay (x .event) && q x (payments before)) (f x) 0) l
+
+  paid : (x : Entry) (l : Entries) → isPay (x .event) ≡ true → all l ≡ total (part l) (payments l) → all (x ∷ l) ≡ total (part (x ∷ l)) (payments (x ∷ l))
+  unfolding sum total
+  paid x l t h =
+      rw (payments-one (x .event) (x .part) l t, add-one (payments l), payment-new (x .event) (x .part) l t)
+      (simp t (omega (arith, h, total-same (part (x ∷ l)) (part l) (payments l) (λ n b. rw (payment-old (x .event) (x .part) l n (λ e. omega arith))))))
+
+  unpaid : (x : Entry) (l : Entries) → isPay (x .event) ≡ false → all l ≡ total (part l) (payments l) → all (x ∷ l) ≡ total (part (x ∷ l)) (payments (x ∷ l))
+  unfolding sum
+  unpaid x l t h =
+      rw (payments-same (x .event) (x .part) l t)
+      (simp t (omega (arith, h, total-same (part (x ∷ l)) (part l) (payments l) (λ n b. rw (payment-same (x .event) (x .part) l n t)))))
+
+  pub by-number : (l : Entries) → all l ≡ total (part l) (payments l)
+  unfolding sum payments count total
+  by-number [] = refl
+  by-number (x ∷ l) = decide (isPay (x .event)) (λ t. paid x l t (by-number l)) (λ t. unpaid x l t (by-number l))
+
+-- ---- the days of payments
+
+abbrev pub Dated : Entries → Type 0
+Dated l = (n : ℕ) → payment n l .event .day ≤ 399
+
+dated-step : (t : Terms) (l : Ledger) (e : Event) → Dated (l .list) → Dated (ledgerStep t l e .ledger .list)
+unfolding ledgerStep payment find
+dated-step t l e h n = decide (accepts t l e)
+    (λ y. simp y (decide (hasNumber n (record { event = e; part = moveOf t l e .part }) (l .list))
+    (λ p. simp p (accepted-by t l e y .upto))
+    (λ p. simp p (h n))))
+    (λ f. simp f (h n))
+
+dated-from : (t : Terms) (es : List Event) (l : Ledger) → Dated (l .list) → Dated (ledgerAfter t l es .list)
+unfolding ledgerAfter
+dated-from t [] l h = h
+dated-from t (e ∷ es) l h = dated-from t es (ledgerStep t l e .ledger) (dated-step t l e h)
+
+-- Every payment that the ledger accepted is of one of days 0 to 399.
+pub dated-after : (t : Terms) (es : List Event) → Dated (ledgerAfter t opening es .list)
+unfolding payment find
+dated-after t es = dated-from t es opening (λ n. omega arith)

@@ -1,0 +1,12 @@
+// `prepay`: an event text on standard input, its transcript on standard output.
+// It uses the transcript and the kit's reading and writing. A text of more than 65,536 bytes fills the buffer, which is one byte longer.
+use libc::STDIN_FILENO;
+use libc::STDOUT_FILENO;
+
+fn main() {
+    let mut text = [0u8; 65537];
+    let count = io::read_full(STDIN_FILENO, &mut text);
+    let mut out = [0u8; 655360];
+    let length = transcript::transcript(&text[..count], &mut out);
+    io::write_all(STDOUT_FILENO, &out[..length]);
+}

@@ -1,0 +1,71 @@
+-- An event and the terms, from their parts, by places. Assumes nothing.
+use mathlib.Core.Path.{_≡_}
+use mathlib.Core.List.{List}
+use Prim.Native.Nat.{ℕ, _+_, _-_, _≤_}
+use native.Mathlib.Omega.{arith}
+use lib.ListN.{length, drop, length-drop}
+use Rattle.calendar.specs.declared.Date.{Date}
+use Rattle.ledger.specs.declared.Event.{Event}
+use Rattle.text.specs.Text.{got, kDay, kOpen, kPrice, kConnect, kCutoff, kShare, readFields, fieldsOf, eventOf, readEvent, readTerms, EventAt, TermsAt}
+use Rattle.text.specs.Places.{NumberAt, DateAt, SortAt, FieldsAt}
+use Rattle.text.specs.declared.NumberRead.the-variants as number-read
+use Rattle.text.specs.declared.DateRead.the-variants as date-read
+use Rattle.text.specs.declared.EventRead.{EventRead}
+use Rattle.text.specs.declared.EventRead.the-variants as event-read
+use Rattle.text.specs.declared.TermsRead.the-variants as terms-read
+use Rattle.text.proofs.Laws.{event-progress}
+
+module _ (s : List ℕ) (at : ℕ) where
+  pub no-day : NumberAt kDay s at number-read.Broken → EventAt s at event-read.Broken
+  unfolding readEvent
+  no-day h = simp h
+
+  module _ (d a : ℕ) (h : NumberAt kDay s at (number-read.Got d a)) where
+    pub no-sort : SortAt s a number-read.Broken → EventAt s at event-read.Broken
+    unfolding readEvent
+    no-sort g = simp (h .0, g)
+
+    module _ (k b : ℕ) (g : SortAt s a (number-read.Got k b)) where
+      past : (e : Event) (next : ℕ) → next ≤ length s → readEvent (drop at s) ≡ got e (drop next s) → at + 14 ≤ next
+      past e next l q =
+        let p : length s - next + 14 ≤ length s - at = simp length-drop at (event-progress (drop at s) e (drop next s) q) in
+        omega arith
+
+      read-is : readEvent (drop at s) ≡ readFields (fieldsOf k) (eventOf d k) (drop b s)
+      unfolding readEvent
+      read-is = simp (h .0, g .0)
+
+      pub whole-event : (r : EventRead) → FieldsAt (fieldsOf k) (eventOf d k) s b r → EventAt s at r
+      whole-event (event-read.Got e next) f = let q : readEvent (drop at s) ≡ got e (drop next s) = rw read-is (f .0) in (q, past e next (f .1) q, f .1)
+      whole-event event-read.Broken f = rw read-is f
+
+-- ---- the terms
+
+module _ (s : List ℕ) where
+  pub no-open : DateAt kOpen s 0 date-read.Broken → TermsAt s terms-read.Broken
+  unfolding readTerms
+  no-open h = simp h
+
+  module _ (o : Date) (a : ℕ) (h : DateAt kOpen s 0 (date-read.Got o a)) where
+    pub no-price : NumberAt kPrice s a number-read.Broken → TermsAt s terms-read.Broken
+    unfolding readTerms
+    no-price n = simp (h .0, n)
+
+    module _ (p b : ℕ) (i : NumberAt kPrice s a (number-read.Got p b)) where
+      pub no-connect : NumberAt kConnect s b number-read.Broken → TermsAt s terms-read.Broken
+      unfolding readTerms
+      no-connect n = simp (h .0, i .0, n)
+
+      module _ (c d : ℕ) (j : NumberAt kConnect s b (number-read.Got c d)) where
+        pub no-cutoff : NumberAt kCutoff s d number-read.Broken → TermsAt s terms-read.Broken
+        unfolding readTerms
+        no-cutoff n = simp (h .0, i .0, j .0, n)
+
+        module _ (f g : ℕ) (k : NumberAt kCutoff s d (number-read.Got f g)) where
+          pub no-share : NumberAt kShare s g number-read.Broken → TermsAt s terms-read.Broken
+          unfolding readTerms
+          no-share n = simp (h .0, i .0, j .0, k .0, n)
+
+          pub whole-terms : (m next : ℕ) → NumberAt kShare s g (number-read.Got m next) → TermsAt s (terms-read.Got (record { opened = o; price = p; connect = c; cutoff = f; share = m }) next)
+          unfolding readTerms
+          whole-terms m next n = (simp (h .0, i .0, j .0, k .0, n .0), n .1)

@@ -1,0 +1,98 @@
+-- The lines by the head's step and the reading calls are the ledger's, for an account that stands for the ledger. Assumes nothing.
+use Prim.Native.Nat.{ℕ, zero, suc, _+_, _-_, _<_}
+use mathlib.Core.Path.{_≡_, refl, sym, ap, ap₂, _∙_}
+use mathlib.Core.Bool.{Bool, true, false, cond}
+use mathlib.Core.List.{List, [], _∷_, _++_}
+use native.Mathlib.Omega.{arith}
+use lib.ListN.{length, drop, length-drop}
+use Rattle.terms.specs.Terms.{validTerms, termsCode}
+use Rattle.terms.specs.declared.Terms.{Terms}
+use Rattle.ledger.specs.declared.Event.{Event}
+use Rattle.ledger.specs.Rules.{Ledger}
+use Rattle.ledger.specs.Ledger.{Outcome, opening, ledgerStep}
+use Rattle.ledger.specs.Sums.{settled, standing}
+use Rattle.ledger.proofs.Cases.{decide}
+use Rattle.account.specs.Record.{fresh}
+use Rattle.account.specs.Head.{stepOf, openOf}
+use Rattle.account.specs.declared.Opened.{Opened}
+use Rattle.account.specs.declared.Account.{Account}
+use Rattle.refinement.specs.Agree.{Stands, Refinement}
+use Rattle.refinement.proofs.Refines.{refinement-holds}
+use Rattle.readings.specs.Readings.{balanceOf, settledOf}
+use Rattle.readings.proofs.After.{balance-is, settled-reads}
+use Rattle.text.specs.Text.{Read, got, broken, readEvent}
+use Rattle.transcript.specs.Transcript.{line, lastLine, closing, eventLines, termsLine, byTerms}
+use Rattle.transcript.specs.Work.{Wrote, headLine, headClosing, headLines}
+use Rattle.transcript.proofs.Turn.{lines-got, lines-broken}
+
+-- ---- one line
+
+module _ (t : Terms) (a : Account) (l : Ledger) (s : Stands t a l) where
+  closing-is : headClosing (a .totals) ≡ closing t l
+  closing-is = rw (settled-reads t (a .totals) l (s .agree .sums) (s .agree .bounds) (s .sane), s .agree .sums .standing)
+
+  line-is : (n code value : ℕ) → headLine n code value (a .totals) ≡ line n code value (l .balance) (l .plan)
+  line-is n code value = rw (balance-is t (a .totals) l (s .agree .sums) (s .agree .bounds), s .agree .sums .plan)
+
+-- ---- the ledger's lines, by what stands there
+
+events-got : (k : ℕ) (t : Terms) (l : Ledger) (n b : ℕ) (s r : List ℕ) (e : Event) → readEvent (b ∷ s) ≡ got e r
+    → eventLines (suc k) t l n (b ∷ s)
+    ≡ line n (ledgerStep t l e .answer .code) (ledgerStep t l e .answer .value) (ledgerStep t l e .ledger .balance) (ledgerStep t l e .ledger .plan)
+      ++ eventLines k t (ledgerStep t l e .ledger) (n + 1) r
+unfolding eventLines
+events-got k t l n b s r e g = rw (g, eventLines)
+
+events-broken : (k : ℕ) (t : Terms) (l : Ledger) (n b : ℕ) (s : List ℕ) → readEvent (b ∷ s) ≡ broken
+    → eventLines (suc k) t l n (b ∷ s) ≡ line n 15 0 (l .balance) (l .plan) ++ closing t l
+unfolding eventLines
+events-broken k t l n b s g = rw (g, eventLines)
+
+-- ---- all lines
+
+by-read : {X : Type 0} (x : Read Event) → ((e : Event) (r : List ℕ) → x ≡ got e r → X) → (x ≡ broken → X) → X
+by-read (got e r) g f = g e r refl
+by-read broken g f = f refl
+
+pub lines-are : (t : Terms) → validTerms t ≡ true → (k : ℕ) (a : Account) (l : Ledger) (n : ℕ) (s : List ℕ) → Stands t a l → headLines k a n s ≡ eventLines k t l n s
+unfolding headLines eventLines
+lines-are t v zero a l n s h = refl
+lines-are t v (suc k) a l n [] h = closing-is t a l h
+lines-are t v (suc k) a l n (b ∷ s) h = by-read (readEvent (b ∷ s))
+    (λ e r g.
+      let f : Refinement t = refinement-holds t v in
+      let m : Ledger = ledgerStep t l e .ledger in
+      let st : Stands t (stepOf a e .account) m = f .again a l e h in
+      lines-got k a n (b ∷ s) r e (omega arith) g
+      ∙ ap₂ _++_
+        (line-is t (stepOf a e .account) m st n (stepOf a e .code) (stepOf a e .value)
+        ∙ ap₂ (λ (c w : ℕ). line n c w (m .balance) (m .plan)) (f .code a l e h) (f .value a l e h))
+        (lines-are t v k (stepOf a e .account) m (n + 1) r st)
+      ∙ sym (events-got k t l n b s r e g))
+    (λ g.
+      lines-broken k a n (b ∷ s) (omega arith) g
+      ∙ ap₂ _++_ (line-is t a l h n 15 0) (closing-is t a l h)
+      ∙ sym (events-broken k t l n b s g))
+
+-- ---- from the terms
+
+wrong : (t : Terms) → (termsCode t ≡ 0 → ⊥) → (validTerms t ≡ false) × (termsCode t ≡ 1)
+unfolding termsCode
+wrong t ne = decide (validTerms t) (λ y. absurd (ne (simp y))) (λ f. (f, simp f))
+
+right : (t : Terms) → termsCode t ≡ 0 → validTerms t ≡ true
+unfolding termsCode
+right t e = decide (validTerms t) (λ y. y) (λ f. absurd (let one : _≡_ {A = ℕ} 1 0 = simp f at e in omega arith))
+
+module _ (t : Terms) (o : Opened) (is : o ≡ openOf t) {b after : List ℕ} {r : ℕ} where
+  pub refused : (s : List ℕ) → (o .code ≡ 0 → ⊥) → Wrote b 0 (termsLine (o .code)) after r → Wrote b 0 (byTerms (got t s)) after r
+  refused s ne w =
+    let k : o .code ≡ termsCode t = ap (λ (p : Opened). p .code) is in
+    let f = wrong t (λ e. ne (k ∙ e)) in
+    simp (f .0) (rw (k ∙ f .1) at w)
+
+  pub opened : (text : List ℕ) (start : ℕ) → o .code ≡ 0
+      → Wrote b 0 (headLines (suc (length text - start)) (o .account) 1 (drop start text)) after r → Wrote b 0 (byTerms (got t (drop start text))) after r
+  opened text start e w =
+    let v : validTerms t ≡ true = right t (sym (ap (λ (p : Opened). p .code) is) ∙ e) in
+    simp (v, length-drop) (rw (ap (λ (p : Opened). p .account) is, lines-are t v (suc (length text - start)) (fresh t) opening 1 (drop start text) (refinement-holds t v .opens)) at w)
