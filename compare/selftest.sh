@@ -32,7 +32,7 @@ while IFS='|' read -r name file change; do
     status=0
     reference/target/release/compare --prepay "$work/target/release/prepay_ref" \
         --summary "$work/target/release/summary_ref" --texts "$texts" --seed "$seed" \
-        --most-failures 1 --failures "$work/failures" >"$work/log" || status=$?
+        --most-failures 1 --shrink-seconds 10 --failures "$work/failures" >"$work/log" || status=$?
     if [[ $status == 1 ]]; then
         found=$((found + 1))
         echo "found        $name ($(grep -o 'in [a-z]*: seed [0-9]* text [0-9]*, a .*' "$work/log" | head -1)," \

@@ -130,13 +130,6 @@ fn is_outside(d: Dated) -> bool {
     }
 }
 
-fn is_none(n: Numbered) -> bool {
-    match n {
-        Numbered::Day(_) => false,
-        Numbered::Outside => true,
-    }
-}
-
 // Whether the month's days are those expected, and day k is one of them.
 fn in_month(v: Vector) -> bool {
     let opened = v.opened;

@@ -88,7 +88,7 @@ module _ {M : Type 1} (𝓤 : URA M) (H : Heap 𝓤) (A : Atoms 𝓤) (at-mem : 
   PostRow = tripleOf 𝓤 H A g.signature (g.spec 𝓤 H A at-mem run)
 
 module _ {M : Type 1} (𝓤 : URA M) (H : Heap 𝓤) (A : Atoms 𝓤) (W : Given 𝓤 H A) (at-mem : Memory → SProp 𝓤) (run : Routine → Fun 𝓤) (κ : Lft) (q : Share) (h : Account) (es : List Event) (bc oc : ℕ) (γc : GName) (cs : List ℕ)
-    (is-h : Is T.the-row h (valT h ∷ [])) (is-es : Is (Row) es (valR es ∷ [])) (room : Room u8 (length cs)) where
+    (is-h : Is T.the-row h (valT h ∷ [])) (is-es : Is Row es (valR es ∷ [])) (room : Room u8 (length cs)) where
   abbrev n : ℕ
   n = length es
 
@@ -139,7 +139,7 @@ module _ {M : Type 1} (𝓤 : URA M) (H : Heap 𝓤) (A : Atoms 𝓤) (W : Given
   exits b r ys is less e l =
       qed W ((‵ (flft κ q) ⊛ ‵ ftrue) ∷ ‵ (finally u8 γc ys) ∷ []) ∵
       suffices ! _ (ends-at 𝓤 H A f.ended stayed (f.clauses 𝓤 H A at-mem run) W (((κ, tt), (q, tt), tt, x, at), tt) (valD (result b r)) (result b r) (tt, (tt, (ys, tt))) (tt, (tt, (l, tt)))) $ says ! e $ frame ! $
-      nothing ! $ move ! (1 ∷ 0 ∷ []) $ fjoin ! $ owned ! (Row) (Is (Row)) (row-made 𝓤 H A W size) es _ is-es $ fjoin ! $
+      nothing ! $ move ! (1 ∷ 0 ∷ []) $ fjoin ! $ owned ! Row (Is Row) (row-made 𝓤 H A W size) es _ is-es $ fjoin ! $
       owned ! T.the-row (Is T.the-row) (LL.makes T.the-type T′.the-plain 𝓤 H A) h _ is-h $ fjoin ! $
       owned ! D.the-row (Is D.the-row) (LL.makes D.the-type D′.the-plain 𝓤 H A) (result b r) _ (result-is b r is less) $ move ! (1 ∷ 0 ∷ []) $ done !
 

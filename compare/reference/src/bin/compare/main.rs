@@ -13,15 +13,16 @@ use rng::Rng;
 use std::collections::BTreeMap;
 use std::path::{Path, PathBuf};
 use std::process::exit;
-use std::time::Instant;
+use std::time::{Duration, Instant};
 
 const USAGE: &str = "usage: compare --prepay PROGRAM [--summary PROGRAM] [--texts N] [--seed S] [--start I]
-               [--failures FOLDER] [--most-failures N] [--text FILE] [--show I]
+               [--failures FOLDER] [--most-failures N] [--shrink-seconds N] [--text FILE] [--show I]
   --prepay, --summary  the programs under test; the references lie beside this program
   --texts, --seed      how many texts (default 20000), from which seed (default 1)
   --start              index of the first text (default 0): text I is the same in every run of a seed
   --failures           where failing texts go (default: failures)
   --most-failures      stop after so many differences (default 10)
+  --shrink-seconds     time for making one failing text small (default 60)
   --text FILE          compare this one text only
   --show I             print text I of the seed and stop";
 
@@ -33,6 +34,7 @@ struct Options {
     start: u64,
     failures: PathBuf,
     most_failures: u64,
+    shrink_seconds: u64,
     text: Option<PathBuf>,
     show: Option<u64>,
 }
@@ -46,6 +48,7 @@ fn options() -> Options {
         start: 0,
         failures: PathBuf::from("failures"),
         most_failures: 10,
+        shrink_seconds: 60,
         text: None,
         show: None,
     };
@@ -65,6 +68,7 @@ fn options() -> Options {
             "--start" => o.start = number(),
             "--failures" => o.failures = PathBuf::from(&value),
             "--most-failures" => o.most_failures = number(),
+            "--shrink-seconds" => o.shrink_seconds = number(),
             "--text" => o.text = Some(PathBuf::from(&value)),
             "--show" => o.show = Some(number()),
             _ => stop(format!("{key}: unknown")),
@@ -81,22 +85,21 @@ struct Pair {
     print: fn(&reference::text::Run) -> String,
 }
 
-/// What the tested program printed, if it is not what it must be.
-fn difference(runner: &Runner, pair: &Pair, text: &[u8], feed: Feed) -> (Output, Option<Output>) {
+/// What the reference and the tested program make of a text.
+fn both(runner: &Runner, pair: &Pair, text: &[u8], feed: Feed) -> (Output, Output) {
     let run = |program: &Path| {
         runner.run(program, text, feed).unwrap_or_else(|e| {
             eprintln!("{}: {e}", program.display());
             exit(2)
         })
     };
-    let good = run(&pair.reference);
-    let got = run(&pair.tested);
-    let differs = good.bytes != got.bytes || !matches!(got.end, End::Exit(_));
-    (good, (differs || got.end != End::Exit(0)).then_some(got))
+    (run(&pair.reference), run(&pair.tested))
 }
 
-fn is_failure(good: &Output, got: &Option<Output>) -> bool {
-    got.as_ref().is_some_and(|got| got.bytes != good.bytes || !matches!(got.end, End::Exit(_)))
+/// The papers say nothing of the exit code: it is counted, not compared. A
+/// program that is killed or does not end has failed.
+fn differs(good: &[u8], got: &Output) -> bool {
+    got.bytes != good || !matches!(got.end, End::Exit(_))
 }
 
 /// Text with everything but plain characters and line feeds escaped.
@@ -134,19 +137,26 @@ fn first_different_line(a: &[u8], b: &[u8]) -> String {
 }
 
 fn report(o: &Options, runner: &Runner, pair: &Pair, name: &str, text: &[u8], feed: Feed) {
-    let (good, got) = difference(runner, pair, text, feed);
-    let Some(got) = got else {
+    let (good, got) = both(runner, pair, text, feed);
+    if !differs(&good.bytes, &got) {
         println!("  (did not come up again)");
         return;
-    };
+    }
     println!("  {} bytes, fed by {feed:?}, tested program ended with {:?}", text.len(), got.end);
     println!("    {}", first_different_line(&good.bytes, &got.bytes));
-    let small = shrink::shrink(text, 6_000, |t| {
-        let (good, got) = difference(runner, pair, t, feed);
-        is_failure(&good, &got)
+    let started = Instant::now();
+    let small = shrink::shrink(text, 20_000, |t| {
+        // Past its time it ends as it is.
+        if started.elapsed() > Duration::from_secs(o.shrink_seconds) {
+            return false;
+        }
+        let good = (pair.print)(&reference::text::run(t));
+        match runner.run(&pair.tested, t, feed) {
+            Ok(got) => differs(good.as_bytes(), &got),
+            Err(_) => false,
+        }
     });
-    let (good, got) = difference(runner, pair, &small, feed);
-    let got = got.expect("shrunk texts fail");
+    let (good, got) = both(runner, pair, &small, feed);
     println!("  shrunk to {} bytes, ended with {:?}:", small.len(), got.end);
     print!("{}", visible(&small, 2_000));
     println!("  reference:");
@@ -204,11 +214,11 @@ fn main() {
         let text = std::fs::read(path).expect("text");
         let mut differences = 0;
         for p in &pairs {
-            let (good, got) = difference(&runner, p, &text, Feed::Pipe);
-            if is_failure(&good, &got) {
+            let (good, got) = both(&runner, p, &text, Feed::Pipe);
+            if differs(&good.bytes, &got) {
                 differences += 1;
-                println!("{}: DIFFERENT", p.name);
-                println!("    {}", first_different_line(&good.bytes, &got.unwrap().bytes));
+                println!("{}: DIFFERENT, ended with {:?}", p.name, got.end);
+                println!("    {}", first_different_line(&good.bytes, &got.bytes));
             } else {
                 println!("{}: same, {} bytes of answer", p.name, good.bytes.len());
             }
@@ -236,14 +246,13 @@ fn main() {
         let run = reference::text::run(&text);
         stats.note(&text, &run, maker);
         for p in &pairs {
-            let (good, got) = difference(&runner, p, &text, feed);
+            let (good, got) = both(&runner, p, &text, feed);
             if good.bytes != (p.print)(&run).as_bytes() || good.end != End::Exit(0) {
                 println!("text {i}: {} is not what its own library prints", p.reference.display());
                 exit(2);
             }
-            let end = got.as_ref().map_or(End::Exit(0), |g| g.end.clone());
-            *ends.entry((p.name, end)).or_default() += 1;
-            if is_failure(&good, &got) {
+            *ends.entry((p.name, got.end.clone())).or_default() += 1;
+            if differs(&good.bytes, &got) {
                 differences += 1;
                 println!("\nDIFFERENCE {differences} in {}: seed {} text {i}, a {maker} text", p.name, o.seed);
                 let name = format!("{}-seed{}-text{i}", p.name, o.seed);

@@ -5,9 +5,10 @@ pub fn shrink(text: &[u8], mut tries: usize, mut fails: impl FnMut(&[u8]) -> boo
     let mut text = text.to_vec();
     loop {
         let before = text.len();
-        for split in [events as fn(&[u8]) -> Vec<Vec<u8>>, lines, bytes] {
-            text = drop_pieces(split(&text), &mut tries, &mut fails);
-        }
+        text = drop_pieces(events(&text), &mut tries, &mut fails);
+        text = drop_pairs(events(&text), &mut tries, &mut fails);
+        text = drop_pieces(lines(&text), &mut tries, &mut fails);
+        text = drop_pieces(bytes(&text), &mut tries, &mut fails);
         text = smaller_digits(text, &mut tries, &mut fails);
         if text.len() == before || tries == 0 {
             return text;
@@ -54,6 +55,29 @@ fn drop_pieces(mut pieces: Vec<Vec<u8>>, tries: &mut usize, fails: &mut impl FnM
             end = start.min(pieces.len());
         }
         run /= 2;
+    }
+    pieces.concat()
+}
+
+/// Drops any two pieces, such as a charge and the credit that undoes it.
+fn drop_pairs(mut pieces: Vec<Vec<u8>>, tries: &mut usize, fails: &mut impl FnMut(&[u8]) -> bool) -> Vec<u8> {
+    let mut j = pieces.len();
+    while j > 1 && pieces.len() <= 60 {
+        j -= 1;
+        for i in (0..j).rev() {
+            if *tries == 0 {
+                return pieces.concat();
+            }
+            let mut candidate = pieces.clone();
+            candidate.remove(j);
+            candidate.remove(i);
+            *tries -= 1;
+            if fails(&candidate.concat()) {
+                pieces = candidate;
+                j = pieces.len();
+                break;
+            }
+        }
     }
     pieces.concat()
 }

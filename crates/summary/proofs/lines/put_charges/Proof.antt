@@ -1,12 +1,15 @@
+-- `summary::lines::put_charges` meets its contract.
+-- Assumes nothing.
+use Prim.Native.Nat.{_+_, _≤_}
+use mathlib.Core.Bool.{cond}
+use mathlib.Core.List.{_++_}
+use native.Mathlib.Omega.{arith}
+use Rattle.printing.specs.Printing.{decimal}
+use Rattle.summary.specs.Lines.{lastPart, wMissing, Wrote}
+use Rattle.summary.proofs.Placed.{placed, wrote-then, field-then}
 use borrow.Author.Needs.{needs}
 use Rattle.summary.proofs.lines.put_charges.Statement.{statement}
 use Rattle.summary.proofs.lines.put_charges.Tie as tie
-use Rattle.summary.proofs.lines.put_charges.Reads as reads
-use Rattle.summary.proofs.lines.put_charges.Lts as lts
-use Rattle.printing.proofs.put_bytes.Reads as put-bytes-reads
-use Rattle.summary.proofs.lines.flag.Reads as flag-reads
-use Rattle.summary.proofs.lines.put_field.Reads as put-field-reads
-use Rattle.summary.proofs.lines.put_pair.Reads as put-pair-reads
 
 slice-aggregate-put-pair : tie.Need-slice-aggregate-put-pair
 slice-aggregate-put-pair c = search needs
@@ -69,7 +72,19 @@ same-length : tie.Need-same-length
 same-length c = search needs
 
 returns : tie.Need-returns
-returns c = ?
+unfolding lastPart
+returns c =
+    let first = c .before .before .before .before .before .before .before .before .before .before .before .before .before .before .before .before .before .before .before .before .before .before .before .before .before in
+    let third = c .before .before .before .before .before .before .before .before .before .before .before .before .before .before .before .before .before .before .before in
+    let fifth = c .before .before .before .before .before .before .before .before .before .before .before .before .before in
+    let flagged = c .before .before .before .before .before .before .before .before in
+    let missing = c .before .before .before .before .before .before .before in
+    let feed = placed (c .before .before .put-bytes .ensures) (omega (arith, c .before .before .before .before .before .before .before .before .before .before .before .before .before .before .before .before .before .before .before .before .before .before .before .before .before .before .before .before .before .before .before .pre, first .put-pair .ensures .1, first .put-pair .kept .0, third .put-pair2 .ensures .1, third .put-pair2 .kept .0, fifth .put-pair3 .ensures .1, fifth .put-pair3 .kept .0, missing .put-field .ensures .1, missing .put-field .kept .0)) in
+    let field : Wrote _ _ (wMissing ++ decimal (cond _ 1 0)) _ _ = rw (flagged .flag .ensures) at (missing .put-field .ensures .0) in
+    (wrote-then (first .put-pair .ensures .0)
+    (wrote-then (third .put-pair2 .ensures .0)
+    (wrote-then (fifth .put-pair3 .ensures .0) (field-then wMissing _ field feed))),
+    omega (arith, first .put-pair .ensures .1, third .put-pair2 .ensures .1, fifth .put-pair3 .ensures .1, missing .put-field .ensures .1, feed .next))
 
 pub put-charges-spec : {M : Type 1} → statement M
 put-charges-spec =

@@ -1,9 +1,11 @@
+-- `summary::lines::put_first` meets its contract.
+-- Assumes nothing.
+use native.Mathlib.Omega.{arith}
+use Rattle.summary.specs.Lines.{firstPart}
+use Rattle.summary.proofs.Placed.{wrote-then}
 use borrow.Author.Needs.{needs}
 use Rattle.summary.proofs.lines.put_first.Statement.{statement}
 use Rattle.summary.proofs.lines.put_first.Tie as tie
-use Rattle.summary.proofs.lines.put_first.Reads as reads
-use Rattle.summary.proofs.lines.put_first.Lts as lts
-use Rattle.summary.proofs.lines.put_pair.Reads as put-pair-reads
 
 slice-aggregate-put-pair : tie.Need-slice-aggregate-put-pair
 slice-aggregate-put-pair c = search needs
@@ -45,7 +47,13 @@ same-length : tie.Need-same-length
 same-length c = search needs
 
 returns : tie.Need-returns
-returns c = ?
+unfolding firstPart
+returns c =
+    let month = c .before .before .before .before .before .before .before .before .before .before .before .before .before .before .before .before in
+    let kept = c .before .before .before .before .before .before .before .before .before in
+    let reversed = c .before .before in
+    (wrote-then (month .put-pair .ensures .0) (wrote-then (kept .put-pair2 .ensures .0) (reversed .put-pair3 .ensures .0)),
+    omega (arith, month .put-pair .ensures .1, kept .put-pair2 .ensures .1, reversed .put-pair3 .ensures .1))
 
 pub put-first-spec : {M : Type 1} → statement M
 put-first-spec =

@@ -1,11 +1,11 @@
+-- `summary::lines::put_line` meets its contract.
+-- Assumes nothing.
+use native.Mathlib.Omega.{arith}
+use Rattle.summary.specs.Lines.{summaryLine}
+use Rattle.summary.proofs.Placed.{wrote-then}
 use borrow.Author.Needs.{needs}
 use Rattle.summary.proofs.lines.put_line.Statement.{statement}
 use Rattle.summary.proofs.lines.put_line.Tie as tie
-use Rattle.summary.proofs.lines.put_line.Reads as reads
-use Rattle.summary.proofs.lines.put_line.Lts as lts
-use Rattle.summary.proofs.lines.put_charges.Reads as put-charges-reads
-use Rattle.summary.proofs.lines.put_first.Reads as put-first-reads
-use Rattle.summary.proofs.lines.put_usage.Reads as put-usage-reads
 
 put-first-requires : tie.Need-put-first-requires
 put-first-requires c κs = search needs
@@ -20,7 +20,13 @@ same-length : tie.Need-same-length
 same-length c = search needs
 
 returns : tie.Need-returns
-returns c = ?
+unfolding summaryLine
+returns c =
+    let first = c .before .before .before .before .before .before .before .before .before .before in
+    let usage = c .before .before .before .before .before .before in
+    let charges = c .before .before in
+    (wrote-then (first .put-first .ensures .0) (wrote-then (usage .put-usage .ensures .0) (charges .put-charges .ensures .0)),
+    omega (arith, first .put-first .ensures .1, usage .put-usage .ensures .1, charges .put-charges .ensures .1))
 
 pub put-line-spec : {M : Type 1} → statement M
 put-line-spec =

@@ -1,47 +1,50 @@
+-- `summary::lines::put_months` meets its contract. The loop's invariant: the lines of the months passed stand in the buffer.
+-- Assumes nothing.
+use Prim.Native.Nat.{ℕ, _*_, _-_, _≤_}
+use mathlib.Core.Path.{_≡_}
+use native.Mathlib.Omega.{arith}
+use borrow.Author.Needs.{needs}
+use Rattle.months.specs.Summary.{summaryOf}
+use Rattle.summary.specs.Lines.{monthLines, Wrote}
+use Rattle.summary.proofs.Placed.{kept, none, one-more}
 use Rattle.summary.proofs.lines.put_months.Statement.{statement}
 use Rattle.summary.proofs.lines.put_months.Tie as tie
-use Rattle.summary.proofs.lines.put_months.Reads as reads
-use Rattle.summary.proofs.lines.put_months.Lts as lts
-use Rattle.months.proofs.summary.Reads as summary-reads
-use Rattle.summary.proofs.lines.put_line.Reads as put-line-reads
 
 abbrev Inv-loop : tie.InvT-loop
-Inv-loop out₀ a m₀ place₀ out m place = ?
+Inv-loop out₀ a m₀ place₀ out m place = (m ≤ 15) × (place ≤ 510 * m) × Wrote out₀ 0 (monthLines (λ (k : ℕ). summaryOf a k) m) out place
 
 abbrev μ-loop : tie.MeasureT-loop
-μ-loop out₀ a m₀ place₀ out m place = ?
+μ-loop out₀ a m₀ place₀ out m place = 15 - m
 
--- src/lines.rt:106:5
 loop-holds : tie.Need-loop-holds Inv-loop μ-loop
-loop-holds c = ?
+loop-holds c = (search needs, search needs, none _ _)
 
--- src/lines.rt:107:13
 summary-requires : tie.Need-summary-requires Inv-loop μ-loop
-summary-requires c κs = ?
+summary-requires c κs = search needs
 
--- src/lines.rt:108:9
 put-line-requires : tie.Need-put-line-requires Inv-loop μ-loop
-put-line-requires c κs = ?
+put-line-requires c κs = let l = c .before .before .before .loop in omega (arith, kept (l .inv .2), c .before .before .before .before .before .pre)
 
--- src/lines.rt:109:9
 add-m : tie.Need-add-m Inv-loop μ-loop
-add-m c = ?
+add-m c = search needs
 
--- src/lines.rt:106:5
 loop-less : tie.Need-loop-less Inv-loop μ-loop
-loop-less c = ?
+loop-less c = search needs
 
--- src/lines.rt:106:5
 loop-again : tie.Need-loop-again Inv-loop μ-loop
-loop-again c = ?
+loop-again c =
+    let l = c .before .before .before .before .before .before .loop in
+    let line = c .before .before .put-line .ensures in
+    (search needs, omega (arith, l .inv .1, line .1), one-more _ (l .m) _ (l .inv .2) (c .before .before .before .before .summary .ensures .0) (line .0))
 
--- src/lines.rt:100:1
 same-length : tie.Need-same-length Inv-loop μ-loop
-same-length c = ?
+same-length c = kept (c .before .loop .inv .2)
 
--- src/lines.rt:100:1
 returns : tie.Need-returns Inv-loop μ-loop
-returns c = ?
+returns c =
+    let l = c .before .loop in
+    let e : l .m ≡ 15 = omega arith in
+    rw e at (l .inv .2)
 
 pub put-months-spec : {M : Type 1} → statement M
 put-months-spec =

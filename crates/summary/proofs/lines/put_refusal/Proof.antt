@@ -1,10 +1,11 @@
+-- `summary::lines::put_refusal` meets its contract.
+-- Assumes nothing.
+use native.Mathlib.Omega.{arith}
+use Rattle.summary.specs.Lines.{termsLine, wTerms}
+use Rattle.summary.proofs.Placed.{placed, field-then}
 use borrow.Author.Needs.{needs}
 use Rattle.summary.proofs.lines.put_refusal.Statement.{statement}
 use Rattle.summary.proofs.lines.put_refusal.Tie as tie
-use Rattle.summary.proofs.lines.put_refusal.Reads as reads
-use Rattle.summary.proofs.lines.put_refusal.Lts as lts
-use Rattle.printing.proofs.put_bytes.Reads as put-bytes-reads
-use Rattle.summary.proofs.lines.put_field.Reads as put-field-reads
 
 slice-aggregate-put-field : tie.Need-slice-aggregate-put-field
 slice-aggregate-put-field c = search needs
@@ -22,7 +23,11 @@ same-length : tie.Need-same-length
 same-length c = search needs
 
 returns : tie.Need-returns
-returns c = ?
+unfolding termsLine
+returns c =
+    let code = c .before .before .before .before .before .before .before in
+    let zeros = placed (c .before .before .put-bytes .ensures) (omega (arith, code .put-field .ensures .1)) in
+    field-then wTerms _ (code .put-field .ensures .0) zeros
 
 pub put-refusal-spec : {M : Type 1} → statement M
 put-refusal-spec =

@@ -1,9 +1,11 @@
+-- `summary::lines::put_usage` meets its contract.
+-- Assumes nothing.
+use native.Mathlib.Omega.{arith}
+use Rattle.summary.specs.Lines.{usagePart}
+use Rattle.summary.proofs.Placed.{wrote-then}
 use borrow.Author.Needs.{needs}
 use Rattle.summary.proofs.lines.put_usage.Statement.{statement}
 use Rattle.summary.proofs.lines.put_usage.Tie as tie
-use Rattle.summary.proofs.lines.put_usage.Reads as reads
-use Rattle.summary.proofs.lines.put_usage.Lts as lts
-use Rattle.summary.proofs.lines.put_pair.Reads as put-pair-reads
 
 slice-aggregate-put-pair : tie.Need-slice-aggregate-put-pair
 slice-aggregate-put-pair c = search needs
@@ -27,7 +29,11 @@ same-length : tie.Need-same-length
 same-length c = search needs
 
 returns : tie.Need-returns
-returns c = ?
+unfolding usagePart
+returns c =
+    let metered = c .before .before .before .before .before .before .before .before in
+    let estimated = c .before .before in
+    (wrote-then (metered .put-pair .ensures .0) (estimated .put-pair2 .ensures .0), omega (arith, metered .put-pair .ensures .1, estimated .put-pair2 .ensures .1))
 
 pub put-usage-spec : {M : Type 1} → statement M
 put-usage-spec =
