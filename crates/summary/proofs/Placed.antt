@@ -2,15 +2,15 @@
 -- Assumes nothing.
 use mathlib.Core.Path.{_≡_, refl, sym, ap, _∙_}
 use mathlib.Core.List.{List, [], _∷_, _++_, append-assoc}
-use Prim.Native.Nat.{ℕ, zero, suc, _+_, _≤_, _<_}
-use native.Mathlib.Nat.{zero-add}
+use Prim.Native.Nat.{ℕ, zero, suc, _+_, _≤_}
 use native.Mathlib.Numerals.{add-one}
 use native.Mathlib.Omega.{arith}
 use lib.ListN.{length, length-append}
 use Rattle.ledger.specs.declared.Summary.{Summary}
-use Rattle.printing.specs.Printing.{decimal, over, Puts}
+use Rattle.printing.specs.Printing.{digits, decimal, signed, over, Puts}
 use Rattle.printing.proofs.Laws.{length-over, over-none, over-over, put-fits, past-fits}
-use Rattle.summary.specs.Lines.{pair, summaryLine, monthLines, Wrote}
+use Rattle.transcript.specs.Transcript.{line, termsLine}
+use Rattle.summary.specs.Lines.{summaryLine, monthLines, Wrote}
 
 module _ {b : List ℕ} {at : ℕ} {x after : List ℕ} {r : ℕ} where
   pub placed : Puts b at x after r → at + length x ≤ length b → Wrote b at x after r
@@ -56,3 +56,15 @@ pub same-lines : (f g : ℕ → Summary) → ((m : ℕ) → f m ≡ g m) → (n 
 unfolding monthLines
 same-lines f g h zero = refl
 same-lines f g h (suc n) = rw (same-lines f g h n, h n)
+
+-- ---- `prepay`'s line for the terms, by its bytes: `n=0 code=`, the code, ` value=0 balance=0 plan=0` and the line feed
+
+abbrev pub before-code : List ℕ
+before-code = 110 ∷ 61 ∷ 48 ∷ 32 ∷ 99 ∷ 111 ∷ 100 ∷ 101 ∷ 61 ∷ []
+
+abbrev pub after-code : List ℕ
+after-code = 32 ∷ 118 ∷ 97 ∷ 108 ∷ 117 ∷ 101 ∷ 61 ∷ 48 ∷ 32 ∷ 98 ∷ 97 ∷ 108 ∷ 97 ∷ 110 ∷ 99 ∷ 101 ∷ 61 ∷ 48 ∷ 32 ∷ 112 ∷ 108 ∷ 97 ∷ 110 ∷ 61 ∷ 48 ∷ 10 ∷ []
+
+pub terms-line : (code : ℕ) → before-code ++ (decimal code ++ after-code) ≡ termsLine code
+unfolding line decimal digits signed
+terms-line code = refl

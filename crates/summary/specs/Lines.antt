@@ -1,7 +1,7 @@
 -- What `summary` prints, as a definition of the bytes it was given, in the ledger's terms.
 use Prim.Native.Nat.{ℕ, zero, suc, _+_, _≤_}
 use mathlib.Core.Path.{_≡_}
-use mathlib.Core.Bool.{Bool, true, cond}
+use mathlib.Core.Bool.{cond}
 use mathlib.Core.List.{List, [], _∷_, _++_}
 use lib.ListN.{length, getD}
 use lib.Dec.{ltb}
@@ -13,6 +13,7 @@ use Rattle.ledger.specs.Ledger.{opening, ledgerAfter}
 use Rattle.ledger.specs.Months.{ledgerSummary}
 use Rattle.text.specs.Text.{Read, got, broken, readTerms, readEvent}
 use Rattle.printing.specs.Printing.{decimal, over}
+use Rattle.transcript.specs.Transcript.{termsLine}
 
 -- ---- the words, as bytes: `m=`, ` code=`, ` kept_count=`, ` kept_sum=`, ` reversed_count=`, ` reversed_sum=`, ` metered_wh=`, ` metered_cost=`,
 -- ` estimated_wh=`, ` estimated_cost=`, ` kind1=` to ` kind5=`, ` average=`, ` missing=`, and the line feed
@@ -71,13 +72,6 @@ wMissing = 32 ∷ 109 ∷ 105 ∷ 115 ∷ 115 ∷ 105 ∷ 110 ∷ 103 ∷ 61 ∷
 abbrev pub wFeed : List ℕ
 wFeed = 10 ∷ []
 
--- `n=0 code=` and ` value=0 balance=0 plan=0` with a line feed
-abbrev pub wTerms : List ℕ
-wTerms = 110 ∷ 61 ∷ 48 ∷ 32 ∷ 99 ∷ 111 ∷ 100 ∷ 101 ∷ 61 ∷ []
-
-abbrev pub wZeros : List ℕ
-wZeros = 32 ∷ 118 ∷ 97 ∷ 108 ∷ 117 ∷ 101 ∷ 61 ∷ 48 ∷ 32 ∷ 98 ∷ 97 ∷ 108 ∷ 97 ∷ 110 ∷ 99 ∷ 101 ∷ 61 ∷ 48 ∷ 32 ∷ 112 ∷ 108 ∷ 97 ∷ 110 ∷ 61 ∷ 48 ∷ 10 ∷ []
-
 -- ---- a line
 
 -- two words, each with its number
@@ -120,10 +114,7 @@ eventsIn (suc k) s =
     | broken ↦ []
     ]
 
--- "Refused or malformed terms print one line, `n=0`, with the code and zeros, and nothing after."
-unfoldable pub termsLine : ℕ → List ℕ
-termsLine code = wTerms ++ (decimal code ++ wZeros)
-
+-- Refused or malformed terms print the one line that `prepay` prints for them.
 abbrev pub byTerms : Read Terms → List ℕ
 byTerms (got t r) = cond (validTerms t) (monthLines (ledgerSummary t (ledgerAfter t opening (eventsIn (suc (length r)) r) .list)) 15) (termsLine 1)
 byTerms broken = termsLine 15

@@ -16,7 +16,8 @@ ghost use Rattle.text.specs.Text.{got};
 ghost use Rattle.printing.specs.Printing.{decimal};
 ghost use Rattle.posting.specs.Posting.{accountAfter};
 ghost use Rattle.months.specs.Summary.{summaryOf};
-ghost use Rattle.summary.specs.Lines.{pair, firstPart, usagePart, lastPart, summaryLine, monthLines, termsLine, eventsIn, byTerms, summaries, Wrote};
+ghost use Rattle.transcript.specs.Transcript.{termsLine};
+ghost use Rattle.summary.specs.Lines.{pair, firstPart, usagePart, lastPart, summaryLine, monthLines, eventsIn, byTerms, summaries, Wrote};
 
 // ---- one line
 

@@ -57,9 +57,9 @@ module _ (v : List ℕ) where
   -- the number of two digits is at most 99
   pub small : (i n : ℕ) → number.Is n ≡ pairOf v i → n ≤ 99
   small i n e =
-    let a : getD v i 0 ≤ 57 = digit-high (getD v i 0) (both-left (isDigit (getD v i 0)) _ (good i n e)) in
-    let b : getD v (i + 1) 0 ≤ 57 = digit-high (getD v (i + 1) 0) (both-right (isDigit (getD v i 0)) _ (good i n e)) in
-    omega (arith, value-at i n e)
+      let a : getD v i 0 ≤ 57 = digit-high (getD v i 0) (both-left (isDigit (getD v i 0)) _ (good i n e)) in
+      let b : getD v (i + 1) 0 ≤ 57 = digit-high (getD v (i + 1) 0) (both-right (isDigit (getD v i 0)) _ (good i n e)) in
+      omega (arith, value-at i n e)
 
   module _ (l : length v ≡ 10) (h : getD v 4 0 ≡ hyphen) (g : getD v 7 0 ≡ hyphen) where
     pub no-century : number.Wrong ≡ pairOf v 0 → dated.Wrong ≡ dateOf v

@@ -66,7 +66,7 @@ module _ (n : ℕ) where
 
   pub of-none : (n ≡ 1 → ⊥) → (n ≡ 2 → ⊥) → (n ≡ 3 → ⊥) → (n ≡ 4 → ⊥) → (n ≡ 5 → ⊥) → (n ≡ 6 → ⊥) → (n ≡ 8 → ⊥) → (n ≡ 9 → ⊥) → fieldsOf n ≡ []
   of-none a b c d e f g h =
-    simp (ne-eqb n 1 a, ne-eqb n 2 b, ne-eqb n 3 c, ne-eqb n 4 d, ne-eqb n 5 e, ne-eqb n 6 f, ne-eqb n 8 g, ne-eqb n 9 h)
+      simp (ne-eqb n 1 a, ne-eqb n 2 b, ne-eqb n 3 c, ne-eqb n 4 d, ne-eqb n 5 e, ne-eqb n 6 f, ne-eqb n 8 g, ne-eqb n 9 h)
 
 -- no field: the event as it is
 pub nothing : (e : Event) (s : List ℕ) (at : ℕ) → at ≤ length s → FieldsAt [] e s at (event-read.Got e at)

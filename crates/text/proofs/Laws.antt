@@ -108,10 +108,10 @@ terms-taken : (s : List ℕ) → Taken 41 s (readTerms s)
 unfolding readTerms
 terms-taken s =
     then-taken 6 35 s (readDate kOpen s) _ (date-taken kOpen s) (λ (o : Date) (s₁ : List ℕ).
-      then-taken 8 27 s₁ (readNumber kPrice s₁) _ (number-taken kPrice s₁) (λ (p : ℕ) (s₂ : List ℕ).
-        then-taken 10 17 s₂ (readNumber kConnect s₂) _ (number-taken kConnect s₂) (λ (c : ℕ) (s₃ : List ℕ).
-          then-taken 9 8 s₃ (readNumber kCutoff s₃) _ (number-taken kCutoff s₃) (λ (f : ℕ) (s₄ : List ℕ).
-            then-taken 8 0 s₄ (readNumber kShare s₄) _ (number-taken kShare s₄) (λ (h : ℕ) (s₅ : List ℕ). omega arith)))))
+    then-taken 8 27 s₁ (readNumber kPrice s₁) _ (number-taken kPrice s₁) (λ (p : ℕ) (s₂ : List ℕ).
+    then-taken 10 17 s₂ (readNumber kConnect s₂) _ (number-taken kConnect s₂) (λ (c : ℕ) (s₃ : List ℕ).
+    then-taken 9 8 s₃ (readNumber kCutoff s₃) _ (number-taken kCutoff s₃) (λ (f : ℕ) (s₄ : List ℕ).
+    then-taken 8 0 s₄ (readNumber kShare s₄) _ (number-taken kShare s₄) (λ (h : ℕ) (s₅ : List ℕ). omega arith)))))
 
 pub terms-progress : (s : List ℕ) (t : Terms) (r : List ℕ) → readTerms s ≡ got t r → length r < length s
 terms-progress s t r h = let g : length r + 41 ≤ length s = subst (Taken 41 s) h (terms-taken s) in omega arith
@@ -140,17 +140,17 @@ module _ (v : List ℕ) where
   sort-word : Word v (sortOf v)
   unfolding sortOf
   sort-word =
-    word-by v (same wPay v) 1 _ (λ e. inr (inl (refl, omega (arith, same-length wPay v e))))
-    (long wReverse 2 _ (omega arith)
-    (long wCredit 3 _ (omega arith)
-    (long wCharge 4 _ (omega arith)
-    (long wEstimate 5 _ (omega arith)
-    (long wRead 6 _ (omega arith)
-    (long wWarn 7 _ (omega arith)
-    (long wMark 8 _ (omega arith)
-    (long wPlan 9 _ (omega arith)
-    (long wDisconnect 10 _ (omega arith)
-    (long wConnect 11 _ (omega arith) (inl refl)))))))))))
+      word-by v (same wPay v) 1 _ (λ e. inr (inl (refl, omega (arith, same-length wPay v e))))
+      (long wReverse 2 _ (omega arith)
+      (long wCredit 3 _ (omega arith)
+      (long wCharge 4 _ (omega arith)
+      (long wEstimate 5 _ (omega arith)
+      (long wRead 6 _ (omega arith)
+      (long wWarn 7 _ (omega arith)
+      (long wMark 8 _ (omega arith)
+      (long wPlan 9 _ (omega arith)
+      (long wDisconnect 10 _ (omega arith)
+      (long wConnect 11 _ (omega arith) (inl refl)))))))))))
 
 -- ---- the fields and the event
 

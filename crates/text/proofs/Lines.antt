@@ -27,14 +27,14 @@ line-none (x ∷ s) b = simp (ne-eqb x feed (b 0 (omega arith)), line-none s (λ
 module _ (s : List ℕ) (at : ℕ) where
   pub feed-found : (end : ℕ) → at ≤ end → end < length s → getD s end 0 ≡ feed → ((k : ℕ) → k < end → at ≤ k → getD s k 0 ≡ feed → ⊥) → readLine (drop at s) ≡ got (part s at end) (drop (end + 1) s)
   feed-found end a l e b =
-    let there : at + (end - at) ≡ end = omega arith in
-    let past : at + suc (end - at) ≡ end + 1 = omega arith in
-    line-found (drop at s) (end - at) (rw length-drop (omega arith)) (rw (getD-drop, there) e) (λ k i z. b (at + k) (omega arith) (omega arith) (rw getD-drop at z))
-    ∙ rw (drop-drop, past)
+      let there : at + (end - at) ≡ end = omega arith in
+      let past : at + suc (end - at) ≡ end + 1 = omega arith in
+      line-found (drop at s) (end - at) (rw length-drop (omega arith)) (rw (getD-drop, there) e) (λ k i z. b (at + k) (omega arith) (omega arith) (rw getD-drop at z))
+      ∙ rw (drop-drop, past)
 
   pub feed-none : (end : ℕ) → length s ≤ end → ((k : ℕ) → k < end → at ≤ k → getD s k 0 ≡ feed → ⊥) → readLine (drop at s) ≡ broken
   feed-none end l b =
-    line-none (drop at s) (λ k i z. let h : k < length s - at = rw length-drop at i in b (at + k) (omega arith) (omega arith) (rw getD-drop at z))
+      line-none (drop at s) (λ k i z. let h : k < length s - at = rw length-drop at i in b (at + k) (omega arith) (omega arith) (rw getD-drop at z))
 
 -- ---- the key and the equals sign
 

@@ -28,8 +28,8 @@ module _ (s : List ℕ) (at : ℕ) where
     module _ (k b : ℕ) (g : SortAt s a (number-read.Got k b)) where
       past : (e : Event) (next : ℕ) → next ≤ length s → readEvent (drop at s) ≡ got e (drop next s) → at + 14 ≤ next
       past e next l q =
-        let p : length s - next + 14 ≤ length s - at = simp length-drop at (event-progress (drop at s) e (drop next s) q) in
-        omega arith
+          let p : length s - next + 14 ≤ length s - at = simp length-drop at (event-progress (drop at s) e (drop next s) q) in
+          omega arith
 
       read-is : readEvent (drop at s) ≡ readFields (fieldsOf k) (eventOf d k) (drop b s)
       unfolding readEvent

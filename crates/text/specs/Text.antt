@@ -131,11 +131,11 @@ kDo = 100 ∷ 111 ∷ []
 unfoldable pub readTerms : List ℕ → Read Terms
 readTerms s =
     then (readDate kOpen s) (λ (o : Date) (s₁ : List ℕ).
-      then (readNumber kPrice s₁) (λ (p : ℕ) (s₂ : List ℕ).
-        then (readNumber kConnect s₂) (λ (c : ℕ) (s₃ : List ℕ).
-          then (readNumber kCutoff s₃) (λ (f : ℕ) (s₄ : List ℕ).
-            then (readNumber kShare s₄) (λ (h : ℕ) (s₅ : List ℕ).
-              got (record { opened = o; price = p; connect = c; cutoff = f; share = h }) s₅)))))
+    then (readNumber kPrice s₁) (λ (p : ℕ) (s₂ : List ℕ).
+    then (readNumber kConnect s₂) (λ (c : ℕ) (s₃ : List ℕ).
+    then (readNumber kCutoff s₃) (λ (f : ℕ) (s₄ : List ℕ).
+    then (readNumber kShare s₄) (λ (h : ℕ) (s₅ : List ℕ).
+    got (record { opened = o; price = p; connect = c; cutoff = f; share = h }) s₅)))))
 
 -- ---- the words of `do`: "Values of `do` are the bold words", numbered in the paper's order
 
@@ -237,7 +237,7 @@ readFields (f ∷ fs) e s = then (readNumber (keyOf f) s) (λ (n : ℕ) (r : Lis
 unfoldable pub readEvent : List ℕ → Read Event
 readEvent s =
     then (readNumber kDay s) (λ (d : ℕ) (s₁ : List ℕ).
-      then (readSort s₁) (λ (k : ℕ) (s₂ : List ℕ). readFields (fieldsOf k) (eventOf d k) s₂))
+    then (readSort s₁) (λ (k : ℕ) (s₂ : List ℕ). readFields (fieldsOf k) (eventOf d k) s₂))
 
 -- ---- what the scanners answer, by places in the text
 

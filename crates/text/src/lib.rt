@@ -42,7 +42,11 @@ enum Dated {
 
 // The value of the line at a place: its bytes are those from `from` on, its line feed stands at `end`, and `next` is what follows.
 enum ValueRead {
-    Got { from: usize, end: usize, next: usize },
+    Got {
+        from: usize,
+        end: usize,
+        next: usize,
+    },
     Broken,
 }
 
@@ -246,16 +250,30 @@ pub fn read_terms(text: &[u8]) -> TermsRead
     let NumberRead::Got { value: price, next } = read_number(text, next, b"price") else {
         return TermsRead::Broken;
     };
-    let NumberRead::Got { value: connect, next } = read_number(text, next, b"connect") else {
+    let NumberRead::Got {
+        value: connect,
+        next,
+    } = read_number(text, next, b"connect")
+    else {
         return TermsRead::Broken;
     };
-    let NumberRead::Got { value: cutoff, next } = read_number(text, next, b"cutoff") else {
+    let NumberRead::Got {
+        value: cutoff,
+        next,
+    } = read_number(text, next, b"cutoff")
+    else {
         return TermsRead::Broken;
     };
     let NumberRead::Got { value: share, next } = read_number(text, next, b"share") else {
         return TermsRead::Broken;
     };
-    let terms = Terms { opened, price, connect, cutoff, share };
+    let terms = Terms {
+        opened,
+        price,
+        connect,
+        cutoff,
+        share,
+    };
     TermsRead::Got { terms, next }
 }
 
@@ -433,7 +451,11 @@ fn read_reading(text: &[u8], at: usize, event: Event) -> EventRead
 fn read_mark(text: &[u8], at: usize, event: Event) -> EventRead
     ensures { λ r. ⌜ FieldsAt (kindField ∷ fromField ∷ toField ∷ []) event (now (text .entry)) at r ⌝ }
 {
-    let EventRead::Got { event: marked, next } = read_kind(text, at, event) else {
+    let EventRead::Got {
+        event: marked,
+        next,
+    } = read_kind(text, at, event)
+    else {
         return EventRead::Broken;
     };
     let EventRead::Got { event: dated, next } = read_from(text, next, marked) else {
@@ -469,6 +491,16 @@ pub fn read_event(text: &[u8], at: usize) -> EventRead
     let NumberRead::Got { value: sort, next } = read_sort(text, next) else {
         return EventRead::Broken;
     };
-    let event = Event { sort, day, amount: 0, number: 0, kind: 0, usage: 0, wh: 0, from: 0, to: 0 };
+    let event = Event {
+        sort,
+        day,
+        amount: 0,
+        number: 0,
+        kind: 0,
+        usage: 0,
+        wh: 0,
+        from: 0,
+        to: 0,
+    };
     read_fields(text, next, event)
 }

@@ -1,6 +1,6 @@
 -- `text::digits_of` meets its contract. The loop's invariant: what is left of the digits gives the same, and the number so far is within the limit.
 -- Assumes nothing.
-use Prim.Native.Nat.{_≤_, _-_}
+use Prim.Native.Nat.{_≤_, _+_, _*_, _-_}
 use mathlib.Core.Path.{_≡_, refl, sym, _∙_}
 use mathlib.Core.Bool.{true}
 use native.Mathlib.Omega.{arith}
@@ -58,7 +58,7 @@ returns-2 : tie.Need-returns-2 Inv-loop μ-loop
 returns-2 c =
     let l = c .before .before .before .before .before .loop in
     let v = c .before .before .before .before .before .before .before .args .value .now in
-    stops-above v _ _ (l .inv .2 ∙ value-turn v (l .i) (search needs) (l .n)) (c .if2 .taken)
+    stops-above v _ (l .n * 10 + (getD v (l .i) 0 - 48)) (l .inv .2 ∙ value-turn v (l .i) (search needs) (l .n)) (search needs)
 
 add-i : tie.Need-add-i Inv-loop μ-loop
 add-i c = search needs

@@ -8,10 +8,10 @@ use reference::text::{write_event, write_terms, MOST_BYTES};
 use Event::*;
 
 const KINDS: [(&str, u64); 13] = [
-    ("guided", 36),
+    ("guided", 34),
     ("random", 10),
-    ("damaged", 31),
-    ("terms", 5),
+    ("damaged", 30),
+    ("terms", 8),
     ("payments", 4),
     ("year", 3),
     ("long", 3),
@@ -139,7 +139,7 @@ fn terms_text(r: &mut Rng) -> Vec<u8> {
     for _ in 0..r.below(3) {
         write_event(&mut out, r.pick(&[0, 1, 400]), r.pick(&[Warn, Connect, Pay { amount: 3 }]));
     }
-    if r.percent(40) {
+    if r.percent(50) {
         // Bytes of the terms alone are touched.
         let end = line_starts(&out).get(5).copied().unwrap_or(out.len());
         let rest = out.split_off(end);
@@ -648,6 +648,14 @@ fn full(r: &mut Rng) -> Vec<u8> {
     }
     g.limit = MOST_BYTES;
     g.stopped = false;
+    if g.r.percent(40) {
+        // Full of payments too.
+        let target = g.r.range(126, 128) as usize;
+        while g.l.payments().count() < target && !g.stopped {
+            let amount = g.r.range(1, 9) as u32;
+            g.now(Pay { amount });
+        }
+    }
     let target = g.r.pick(&[MOST_EVENTS - 2, MOST_EVENTS - 1, MOST_EVENTS]);
     let x = g.l.last_day();
     while g.l.list.len() < target && !g.stopped {

@@ -1,8 +1,8 @@
 -- `summary::lines::put_refusal` meets its contract.
 -- Assumes nothing.
 use native.Mathlib.Omega.{arith}
-use Rattle.summary.specs.Lines.{termsLine, wTerms}
-use Rattle.summary.proofs.Placed.{placed, field-then}
+use Rattle.printing.specs.Printing.{decimal}
+use Rattle.summary.proofs.Placed.{placed, field-then, before-code, terms-line}
 use borrow.Author.Needs.{needs}
 use Rattle.summary.proofs.lines.put_refusal.Statement.{statement}
 use Rattle.summary.proofs.lines.put_refusal.Tie as tie
@@ -23,11 +23,11 @@ same-length : tie.Need-same-length
 same-length c = search needs
 
 returns : tie.Need-returns
-unfolding termsLine
 returns c =
     let code = c .before .before .before .before .before .before .before in
     let zeros = placed (c .before .before .put-bytes .ensures) (omega (arith, code .put-field .ensures .1)) in
-    field-then wTerms _ (code .put-field .ensures .0) zeros
+    let n = c .before .before .before .before .before .before .before .before .before .before .before .args .code in
+    rw (terms-line n) at (field-then before-code (decimal n) (code .put-field .ensures .0) zeros)
 
 pub put-refusal-spec : {M : Type 1} → statement M
 put-refusal-spec =
