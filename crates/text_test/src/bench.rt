@@ -6,6 +6,15 @@ pub(crate) fn say(text: &[u8]) {
     io::write_all(STDOUT_FILENO, text);
 }
 
+// The bytes from place `from` up to place `end`.
+pub(crate) fn say_part(text: &[u8], from: usize, end: usize) {
+    if from <= end {
+        if end <= text.len() {
+            say(&text[from..end]);
+        }
+    }
+}
+
 pub(crate) fn title(name: &[u8]) {
     say(b"# ");
     say(name);
@@ -16,8 +25,14 @@ pub(crate) fn show(name: &[u8], text: &[u8]) {
     let mut out = [0u8; 655360];
     let length = transcript::transcript(text, &mut out);
     title(name);
-    if length <= 655360 {
-        say(&out[..length]);
+    say_part(&out, 0, length);
+}
+
+// The transcript of the text's first bytes.
+pub(crate) fn show_first(name: &[u8], text: &[u8], end: usize) {
+    let from = 0;
+    if end <= text.len() {
+        show(name, &text[from..end]);
     }
 }
 
@@ -29,9 +44,7 @@ fn five(name: &[u8], open: &[u8], price: &[u8], connect: &[u8], cutoff: &[u8], s
     let after_connect = put_bytes(&mut text, after_price, connect);
     let after_cutoff = put_bytes(&mut text, after_connect, cutoff);
     let end = put_bytes(&mut text, after_cutoff, share);
-    if end <= 1024 {
-        show(name, &text[..end]);
-    }
+    show_first(name, &text, end);
 }
 
 // The usual terms but for this line.
@@ -61,9 +74,7 @@ pub(crate) fn first(name: &[u8], events: &[u8]) {
     let mut text = [0u8; 1024];
     let after_terms = put_terms(&mut text);
     let end = put_bytes(&mut text, after_terms, events);
-    if end <= 1024 {
-        show(name, &text[..end]);
-    }
+    show_first(name, &text, end);
 }
 
 // These events after the usual terms and a payment of 6000 on day 0.
@@ -72,7 +83,5 @@ pub(crate) fn second(name: &[u8], events: &[u8]) {
     let after_terms = put_terms(&mut text);
     let after_payment = put_bytes(&mut text, after_terms, b"day=0\ndo=pay\namount=6000\n");
     let end = put_bytes(&mut text, after_payment, events);
-    if end <= 1024 {
-        show(name, &text[..end]);
-    }
+    show_first(name, &text, end);
 }

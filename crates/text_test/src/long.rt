@@ -2,6 +2,7 @@
 // The usual terms have 61 bytes, the payment of 6000 has 25 and the rest 4,675 times 14.
 use crate::bench::put_terms;
 use crate::bench::say;
+use crate::bench::say_part;
 use crate::bench::title;
 use libc::STDOUT_FILENO;
 use printing::put_bytes;
@@ -17,18 +18,19 @@ fn fill(text: &mut [u8], from: usize, piece: &[u8]) -> usize {
     at
 }
 
-// How long the transcript is, and its last bytes.
-fn show_last(name: &[u8], text: &[u8], count: usize) {
+// How long the transcript of the text's first bytes is, and its last bytes.
+fn show_last(name: &[u8], text: &[u8], end: usize, count: usize) {
+    let from = 0;
+    if end > text.len() {
+        return;
+    }
     let mut out = [0u8; 655360];
-    let length = transcript::transcript(text, &mut out);
+    let length = transcript::transcript(&text[from..end], &mut out);
     title(name);
     io::print_decimal(STDOUT_FILENO, length as u64);
     say(b" bytes, the last of them\n");
     if count <= length {
-        let from = length - count;
-        if length <= 655360 {
-            say(&out[from..length]);
-        }
+        say_part(&out, length - count, length);
     }
 }
 
@@ -37,9 +39,7 @@ fn show_long(name: &[u8], payment: &[u8], piece: &[u8], count: usize) {
     let after_terms = put_terms(&mut text);
     let after_payment = put_bytes(&mut text, after_terms, payment);
     let end = fill(&mut text, after_payment, piece);
-    if end <= 65537 {
-        show_last(name, &text[..end], count);
-    }
+    show_last(name, &text, end, count);
 }
 
 pub(crate) fn texts() {
