@@ -5,7 +5,8 @@ The first ten events are the paper's example. The last event breaks its form, so
 import datetime
 import random
 
-OPENED, PRICE = datetime.date(2024, 1, 1), 1250
+# Month 0 has day 0 alone, month 1 is a leap February, and month 14 has days 395 to 399.
+OPENED, PRICE = datetime.date(2024, 1, 31), 1250
 FIELDS = {"pay": ["amount"], "credit": ["amount"], "reverse": ["number"], "charge": ["kind", "amount"], "estimate": ["usage", "wh"],
           "read": ["usage", "wh"], "warn": [], "connect": [], "disconnect": []}
 
@@ -91,6 +92,9 @@ def events():
             wh = 0
         yield {"pay": (day, do, amount), "credit": (day, do, amount), "reverse": (day, do, rng.randrange(70)),
                "charge": (day, do, rng.randrange(7), amount), "estimate": (day, do, usage, wh), "read": (day, do, usage, wh)}[do]
+    # month 14; the last read is of a usage day in month 13
+    yield from [(395, "pay", 1500), (396, "pay", 700), (396, "reverse", 0), (397, "estimate", 395, 40), (398, "read", 396, 30000),
+                (399, "charge", 2, 250), (399, "read", 380, 32000)]
 
 
 def text(e):
