@@ -57,7 +57,7 @@ over-over b at x y h =
     let e : at + length (x ++ y) ≡ at + length x + length y = rw (length-append x y) (omega arith) in
     ap (λ (l : List ℕ). l ++ (y ++ drop (at + length x + length y) (over b at x))) (take-over b at x (omega arith))
     ∙ ap (λ (l : List ℕ). (take at b ++ x) ++ (y ++ l))
-        (sym (drop-drop (length y) (at + length x) (over b at x)) ∙ ap (drop (length y)) (drop-over b at x (omega arith)) ∙ drop-drop (length y) (at + length x) b)
+    (sym (drop-drop (length y) (at + length x) (over b at x)) ∙ ap (drop (length y)) (drop-over b at x (omega arith)) ∙ drop-drop (length y) (at + length x) b)
     ∙ append-assoc (take at b) x (y ++ drop (at + length x + length y) b)
     ∙ ap (λ (l : List ℕ). take at b ++ l) (sym (append-assoc x y (drop (at + length x + length y) b)))
     ∙ ap (λ (k : ℕ). take at b ++ ((x ++ y) ++ drop k b)) (sym e)
@@ -108,8 +108,8 @@ module _ (b : List ℕ) (at : ℕ) (x : List ℕ) where
   pub length-put : length (put b at x) ≡ length b
   unfolding put fits
   length-put = decide (leb (at + length x) (length b))
-    (λ t. simp t (length-over b at x (leb-true (at + length x) (length b) t)))
-    (λ f. simp f)
+      (λ t. simp t (length-over b at x (leb-true (at + length x) (length b) t)))
+      (λ f. simp f)
 
 -- one thing after the other, where both fit
 pub put-then : (b : List ℕ) (at : ℕ) (x y : List ℕ) → at + length x + length y ≤ length b → put (put b at x) (past b at x) y ≡ put b at (x ++ y)

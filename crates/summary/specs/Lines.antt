@@ -110,8 +110,8 @@ unfoldable pub eventsIn : ℕ → List ℕ → List Event
 eventsIn zero s = []
 eventsIn (suc k) s =
     elim (readEvent s) [
-      got e r ↦ e ∷ eventsIn k r
-    | broken ↦ []
+      | got e r ↦ e ∷ eventsIn k r
+      | broken ↦ []
     ]
 
 -- Refused or malformed terms print the one line that `prepay` prints for them.

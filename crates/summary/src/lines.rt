@@ -50,8 +50,22 @@ fn put_first(out: &mut [u8], at: usize, m: u32, s: Summary) -> usize
     let kept = s.kept;
     let reversed = s.reversed;
     let after_code = put_pair(out, at, b"m=", m as u64, b" code=", s.code as u64);
-    let after_kept = put_pair(out, after_code, b" kept_count=", kept.count as u64, b" kept_sum=", kept.sum);
-    put_pair(out, after_kept, b" reversed_count=", reversed.count as u64, b" reversed_sum=", reversed.sum)
+    let after_kept = put_pair(
+        out,
+        after_code,
+        b" kept_count=",
+        kept.count as u64,
+        b" kept_sum=",
+        kept.sum,
+    );
+    put_pair(
+        out,
+        after_kept,
+        b" reversed_count=",
+        reversed.count as u64,
+        b" reversed_sum=",
+        reversed.sum,
+    )
 }
 
 // Its usage.
@@ -62,8 +76,22 @@ fn put_usage(out: &mut [u8], at: usize, s: Summary) -> usize
 {
     let metered = s.metered;
     let estimated = s.estimated;
-    let after_metered = put_pair(out, at, b" metered_wh=", metered.wh, b" metered_cost=", metered.cost);
-    put_pair(out, after_metered, b" estimated_wh=", estimated.wh, b" estimated_cost=", estimated.cost)
+    let after_metered = put_pair(
+        out,
+        at,
+        b" metered_wh=",
+        metered.wh,
+        b" metered_cost=",
+        metered.cost,
+    );
+    put_pair(
+        out,
+        after_metered,
+        b" estimated_wh=",
+        estimated.wh,
+        b" estimated_cost=",
+        estimated.cost,
+    )
 }
 
 fn flag(b: bool) -> u64
@@ -81,7 +109,14 @@ fn put_charges(out: &mut [u8], at: usize, s: Summary) -> usize
     let charges = s.charges;
     let after_2 = put_pair(out, at, b" kind1=", charges[0], b" kind2=", charges[1]);
     let after_4 = put_pair(out, after_2, b" kind3=", charges[2], b" kind4=", charges[3]);
-    let after_average = put_pair(out, after_4, b" kind5=", charges[4], b" average=", s.average);
+    let after_average = put_pair(
+        out,
+        after_4,
+        b" kind5=",
+        charges[4],
+        b" average=",
+        s.average,
+    );
     let after_missing = put_field(out, after_average, b" missing=", flag(s.missing));
     put_bytes(out, after_missing, b"\n")
 }

@@ -1,31 +1,17 @@
 // The transcripts of texts that break their form, at each kind of line, and of texts beside them that do not.
+// The file stdin has the cases, each its name, `%`, its text and `%`. The name begins with `=` where the text is whole, with `T` where
+// it stands after the usual terms, and with `P` where it stands after the usual terms and a payment of 6000 on day 0.
 // The file stdout is worked out from document 01 by hand; none of its lines is copied from a run.
-mod bench;
-mod events;
-mod long;
-mod opening;
+use libc::STDIN_FILENO;
 
-fn terms() {
-    opening::lines();
-    opening::endings();
-    opening::forms();
-    opening::prices();
-    opening::balances();
-    opening::shares();
-    opening::dates();
-    opening::no_dates();
-}
+mod bench;
+mod cases;
+mod long;
 
 fn main() {
-    terms();
-    events::words();
-    events::days();
-    events::amounts();
-    events::fields();
-    events::usage();
-    events::surplus();
-    events::refusals();
-    events::sums();
+    let mut text = [0u8; 65536];
+    let count = io::read_full(STDIN_FILENO, &mut text);
+    cases::all(&text[..count]);
     long::texts();
     long::short_buffer();
 }

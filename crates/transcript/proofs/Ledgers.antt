@@ -39,7 +39,7 @@ module _ (t : Terms) (a : Account) (l : Ledger) (s : Stands t a l) where
 events-got : (k : ℕ) (t : Terms) (l : Ledger) (n b : ℕ) (s r : List ℕ) (e : Event) → readEvent (b ∷ s) ≡ got e r
     → eventLines (suc k) t l n (b ∷ s)
     ≡ line n (ledgerStep t l e .answer .code) (ledgerStep t l e .answer .value) (ledgerStep t l e .ledger .balance) (ledgerStep t l e .ledger .plan)
-      ++ eventLines k t (ledgerStep t l e .ledger) (n + 1) r
+    ++ eventLines k t (ledgerStep t l e .ledger) (n + 1) r
 unfolding eventLines
 events-got k t l n b s r e g = rw (g, eventLines)
 
@@ -60,19 +60,19 @@ lines-are t v zero a l n s h = refl
 lines-are t v (suc k) a l n [] h = closing-is t a l h
 lines-are t v (suc k) a l n (b ∷ s) h = by-read (readEvent (b ∷ s))
     (λ e r g.
-      let f : Refinement t = refinement-holds t v in
-      let m : Ledger = ledgerStep t l e .ledger in
-      let st : Stands t (stepOf a e .account) m = f .again a l e h in
-      lines-got k a n (b ∷ s) r e (omega arith) g
-      ∙ ap₂ _++_
-        (line-is t (stepOf a e .account) m st n (stepOf a e .code) (stepOf a e .value)
-        ∙ ap₂ (λ (c w : ℕ). line n c w (m .balance) (m .plan)) (f .code a l e h) (f .value a l e h))
-        (lines-are t v k (stepOf a e .account) m (n + 1) r st)
-      ∙ sym (events-got k t l n b s r e g))
+    let f : Refinement t = refinement-holds t v in
+    let m : Ledger = ledgerStep t l e .ledger in
+    let st : Stands t (stepOf a e .account) m = f .again a l e h in
+    lines-got k a n (b ∷ s) r e (omega arith) g
+    ∙ ap₂ _++_
+    (line-is t (stepOf a e .account) m st n (stepOf a e .code) (stepOf a e .value)
+    ∙ ap₂ (λ (c w : ℕ). line n c w (m .balance) (m .plan)) (f .code a l e h) (f .value a l e h))
+    (lines-are t v k (stepOf a e .account) m (n + 1) r st)
+    ∙ sym (events-got k t l n b s r e g))
     (λ g.
-      lines-broken k a n (b ∷ s) (omega arith) g
-      ∙ ap₂ _++_ (line-is t a l h n 15 0) (closing-is t a l h)
-      ∙ sym (events-broken k t l n b s g))
+    lines-broken k a n (b ∷ s) (omega arith) g
+    ∙ ap₂ _++_ (line-is t a l h n 15 0) (closing-is t a l h)
+    ∙ sym (events-broken k t l n b s g))
 
 -- ---- from the terms
 
@@ -87,12 +87,12 @@ right t e = decide (validTerms t) (λ y. y) (λ f. absurd (let one : _≡_ {A = 
 module _ (t : Terms) (o : Opened) (is : o ≡ openOf t) {b after : List ℕ} {r : ℕ} where
   pub refused : (s : List ℕ) → (o .code ≡ 0 → ⊥) → Wrote b 0 (termsLine (o .code)) after r → Wrote b 0 (byTerms (got t s)) after r
   refused s ne w =
-    let k : o .code ≡ termsCode t = ap (λ (p : Opened). p .code) is in
-    let f = wrong t (λ e. ne (k ∙ e)) in
-    simp (f .0) (rw (k ∙ f .1) at w)
+      let k : o .code ≡ termsCode t = ap (λ (p : Opened). p .code) is in
+      let f = wrong t (λ e. ne (k ∙ e)) in
+      simp (f .0) (rw (k ∙ f .1) at w)
 
   pub opened : (text : List ℕ) (start : ℕ) → o .code ≡ 0
       → Wrote b 0 (headLines (suc (length text - start)) (o .account) 1 (drop start text)) after r → Wrote b 0 (byTerms (got t (drop start text))) after r
   opened text start e w =
-    let v : validTerms t ≡ true = right t (sym (ap (λ (p : Opened). p .code) is) ∙ e) in
-    simp (v, length-drop) (rw (ap (λ (p : Opened). p .account) is, lines-are t v (suc (length text - start)) (fresh t) opening 1 (drop start text) (refinement-holds t v .opens)) at w)
+      let v : validTerms t ≡ true = right t (sym (ap (λ (p : Opened). p .code) is) ∙ e) in
+      simp (v, length-drop) (rw (ap (λ (p : Opened). p .account) is, lines-are t v (suc (length text - start)) (fresh t) opening 1 (drop start text) (refinement-holds t v .opens)) at w)

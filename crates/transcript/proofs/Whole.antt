@@ -41,6 +41,6 @@ pub within : (s before after : List ℕ) (r : ℕ) → Written s before after r 
 within s before after r w = decide (ltb (length before) 655360)
     (λ t. let none : r ≡ 0 = simp t at (w .answer) in omega arith)
     (λ f.
-      let all : r ≡ length (transcript s) = simp f at (w .answer) in
-      let bytes : after ≡ transcript s ++ drop (length (transcript s)) before = simp f at (w .bytes) in
-      omega (arith, simp length-append at (ap length bytes)))
+    let all : r ≡ length (transcript s) = simp f at (w .answer) in
+    let bytes : after ≡ transcript s ++ drop (length (transcript s)) before = simp f at (w .bytes) in
+    omega (arith, simp length-append at (ap length bytes)))

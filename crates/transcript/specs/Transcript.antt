@@ -60,9 +60,9 @@ eventLines zero t l n s = []
 eventLines (suc k) t l n [] = closing t l
 eventLines (suc k) t l n (b ∷ s) =
     elim (readEvent (b ∷ s)) [
-      got e r ↦ line n (ledgerStep t l e .answer .code) (ledgerStep t l e .answer .value) (ledgerStep t l e .ledger .balance) (ledgerStep t l e .ledger .plan)
-        ++ eventLines k t (ledgerStep t l e .ledger) (n + 1) r
-    | broken ↦ line n 15 0 (l .balance) (l .plan) ++ closing t l
+      | got e r ↦ line n (ledgerStep t l e .answer .code) (ledgerStep t l e .answer .value) (ledgerStep t l e .ledger .balance) (ledgerStep t l e .ledger .plan)
+          ++ eventLines k t (ledgerStep t l e .ledger) (n + 1) r
+      | broken ↦ line n 15 0 (l .balance) (l .plan) ++ closing t l
     ]
 
 -- "Refused or malformed terms print one line, `n=0`, with the code and zeros, and nothing after."

@@ -33,6 +33,6 @@ headLines zero a n s = []
 headLines (suc k) a n [] = headClosing (a .totals)
 headLines (suc k) a n (b ∷ s) =
     elim (readEvent (b ∷ s)) [
-      got e r ↦ headLine n (stepOf a e .code) (stepOf a e .value) (stepOf a e .account .totals) ++ headLines k (stepOf a e .account) (n + 1) r
-    | broken ↦ headLine n 15 0 (a .totals) ++ headClosing (a .totals)
+      | got e r ↦ headLine n (stepOf a e .code) (stepOf a e .value) (stepOf a e .account .totals) ++ headLines k (stepOf a e .account) (n + 1) r
+      | broken ↦ headLine n 15 0 (a .totals) ++ headClosing (a .totals)
     ]

@@ -41,7 +41,15 @@ fn put_sum(out: &mut [u8], at: usize, word: &[u8], z: i64) -> usize
 }
 
 // A line of 131 bytes at most, 114 with a code of three digits at most.
-fn put_line(out: &mut [u8], at: usize, n: u64, code: u8, value: u64, balance: i64, plan: u64) -> usize
+fn put_line(
+    out: &mut [u8],
+    at: usize,
+    n: u64,
+    code: u8,
+    value: u64,
+    balance: i64,
+    plan: u64,
+) -> usize
     requires { ⌜ at + 131 ≤ length (now out) ⌝ }
     ensures { λ r. ⌜ Wrote (now (out .entry)) at (line n code value balance plan) (now (out .exit)) r ⌝ }
     ensures { λ r. ⌜ r ≤ at + 114 ⌝ }
@@ -69,7 +77,15 @@ fn put_event(out: &mut [u8], at: usize, n: u64, code: u8, value: u64, s: Totals)
     ensures { λ r. ⌜ Wrote (now (out .entry)) at (headLine n code value s) (now (out .exit)) r ⌝ }
     ensures { λ r. ⌜ r ≤ at + 114 ⌝ }
 {
-    put_line(out, at, n, code, value, readings::balance(s), readings::plan(s))
+    put_line(
+        out,
+        at,
+        n,
+        code,
+        value,
+        readings::balance(s),
+        readings::plan(s),
+    )
 }
 
 // The last line, by the totals.

@@ -41,11 +41,14 @@ loop-again c =
     let a = c .before .before .before .before .args in
     let l = c .before .before .loop in
     let t = length-high (l .rest) (c .before .loop-test .taken) in
-    let e : l .i ≡ a .at + length (decimal (l .rest / 10)) = omega arith in
-    (omega (arith, some-digit (l .rest / 10)), simp length-set (omega arith), simp length-set (l .inv .2),
-    rw (e, c .digit .ensures) (over-last (l .out) (a .at) (decimal (l .rest / 10)) (48 + l .rest % 10) (omega arith)
-    ∙ ap (over (l .out) (a .at)) (sym (decimal-high (l .rest) (c .before .loop-test .taken)))
-    ∙ l .inv .3))
+    let e : l .i ≡ a .at + length (decimal (l .rest / 10)) = omega arith in (
+      omega (arith, some-digit (l .rest / 10)),
+      simp length-set (omega arith),
+      simp length-set (l .inv .2),
+      rw (e, c .digit .ensures) (over-last (l .out) (a .at) (decimal (l .rest / 10)) (48 + l .rest % 10) (omega arith)
+          ∙ ap (over (l .out) (a .at)) (sym (decimal-high (l .rest) (c .before .loop-test .taken)))
+          ∙ l .inv .3),
+    )
 
 digit-requires-2 : tie.Need-digit-requires-2 Inv-loop μ-loop
 digit-requires-2 c κs = omega arith

@@ -62,12 +62,13 @@ returns c =
     let s = c1 .before .before .before .before in
     let feed = placed (c .before .before .put-bytes .ensures) (omega arith) in
     let a = s .args in
-    let sum : Wrote _ _ (wBalance ++ signed (a .balance)) _ _ = rw (back (a .balance) (s .fits .balance)) at (c4 .put-sum .ensures .0) in
-    (field-then wN (decimal (a .n)) (c1 .put-field .ensures .0)
-    (field-then wCode (decimal (a .code)) (c2 .put-field2 .ensures .0)
-    (field-then wValue (decimal (a .value)) (c3 .put-field3 .ensures .0)
-    (field-then wBalance (signed (a .balance)) sum (field-then wPlan (decimal (a .plan)) (c5 .put-field4 .ensures .0) feed)))),
-    omega (arith, feed .next, c5 .put-field4 .ensures .1, c4 .put-sum .ensures .1, c3 .put-field3 .ensures .1, c2 .put-field2 .ensures .0 .next, length-byte (a .code) (s .fits .code .fits), c1 .put-field .ensures .1))
+    let sum : Wrote _ _ (wBalance ++ signed (a .balance)) _ _ = rw (back (a .balance) (s .fits .balance)) at (c4 .put-sum .ensures .0) in (
+      field-then wN (decimal (a .n)) (c1 .put-field .ensures .0)
+          (field-then wCode (decimal (a .code)) (c2 .put-field2 .ensures .0)
+          (field-then wValue (decimal (a .value)) (c3 .put-field3 .ensures .0)
+          (field-then wBalance (signed (a .balance)) sum (field-then wPlan (decimal (a .plan)) (c5 .put-field4 .ensures .0) feed)))),
+      omega (arith, feed .next, c5 .put-field4 .ensures .1, c4 .put-sum .ensures .1, c3 .put-field3 .ensures .1, c2 .put-field2 .ensures .0 .next, length-byte (a .code) (s .fits .code .fits), c1 .put-field .ensures .1),
+    )
 
 pub put-line-spec : {M : Type 1} → statement M
 put-line-spec =

@@ -132,7 +132,36 @@ fn edge_terms(r: &mut Rng) -> Terms {
     t
 }
 
+/// Each line of the terms by itself good, over its limit, or malformed.
+fn mixed_terms(r: &mut Rng) -> Vec<u8> {
+    let t = good_terms(r);
+    let open = format!("{:04}-{:02}-{:02}", t.open.year, t.open.month, t.open.day);
+    let over_dates: [&str; 5] = ["2023-02-29", "1999-12-31", "2100-01-01", "0000-00-00", "2024-13-99"];
+    let broken_dates: [&str; 5] = ["2024-1-01", "", "2024-01-01 ", "2024/01/01", "20240101"];
+    let broken: [&str; 6] = ["", "01", "00", "-1", "4294967296", "1\r"];
+    let mut out = String::new();
+    for (key, good, over) in [
+        ("open", open, over_dates),
+        ("price", t.price.to_string(), ["0", "100000", "0", "4294967295", "165535"]),
+        ("connect", t.connect.to_string(), ["7501", "65536", "4294967295", "9999", "10000"]),
+        ("cutoff", t.cutoff.to_string(), ["1001", "7501", "65536", "4294967295", "2000"]),
+        ("share", t.share.to_string(), ["51", "100", "256", "306", "4294967295"]),
+    ] {
+        let value = match r.below(10) {
+            0..=6 => &good,
+            7 | 8 => r.pick(&over),
+            _ if key == "open" => r.pick(&broken_dates),
+            _ => r.pick(&broken),
+        };
+        out.push_str(&format!("{key}={value}\n"));
+    }
+    out.into_bytes()
+}
+
 fn terms_text(r: &mut Rng) -> Vec<u8> {
+    if r.percent(30) {
+        return mixed_terms(r);
+    }
     let mut out = Vec::new();
     let t = if r.percent(70) { edge_terms(r) } else { good_terms(r) };
     write_terms(&mut out, &t);

@@ -79,11 +79,12 @@ returns c =
     let flagged = c .before .before .before .before .before .before .before .before in
     let missing = c .before .before .before .before .before .before .before in
     let feed = placed (c .before .before .put-bytes .ensures) (omega (arith, c .before .before .before .before .before .before .before .before .before .before .before .before .before .before .before .before .before .before .before .before .before .before .before .before .before .before .before .before .before .before .before .pre, first .put-pair .ensures .1, first .put-pair .kept .0, third .put-pair2 .ensures .1, third .put-pair2 .kept .0, fifth .put-pair3 .ensures .1, fifth .put-pair3 .kept .0, missing .put-field .ensures .1, missing .put-field .kept .0)) in
-    let field : Wrote _ _ (wMissing ++ decimal (cond (c .before .before .before .before .before .before .before .before .before .before .before .before .before .before .before .before .before .before .before .before .before .before .before .before .before .before .before .before .before .before .before .args .s .missing) 1 0)) _ _ = rw (flagged .flag .ensures) at (missing .put-field .ensures .0) in
-    (wrote-then (first .put-pair .ensures .0)
-    (wrote-then (third .put-pair2 .ensures .0)
-    (wrote-then (fifth .put-pair3 .ensures .0) (field-then wMissing (decimal (cond (c .before .before .before .before .before .before .before .before .before .before .before .before .before .before .before .before .before .before .before .before .before .before .before .before .before .before .before .before .before .before .before .args .s .missing) 1 0)) field feed))),
-    omega (arith, first .put-pair .ensures .1, third .put-pair2 .ensures .1, fifth .put-pair3 .ensures .1, missing .put-field .ensures .1, feed .next))
+    let field : Wrote _ _ (wMissing ++ decimal (cond (c .before .before .before .before .before .before .before .before .before .before .before .before .before .before .before .before .before .before .before .before .before .before .before .before .before .before .before .before .before .before .before .args .s .missing) 1 0)) _ _ = rw (flagged .flag .ensures) at (missing .put-field .ensures .0) in (
+      wrote-then (first .put-pair .ensures .0)
+          (wrote-then (third .put-pair2 .ensures .0)
+          (wrote-then (fifth .put-pair3 .ensures .0) (field-then wMissing (decimal (cond (c .before .before .before .before .before .before .before .before .before .before .before .before .before .before .before .before .before .before .before .before .before .before .before .before .before .before .before .before .before .before .before .args .s .missing) 1 0)) field feed))),
+      omega (arith, first .put-pair .ensures .1, third .put-pair2 .ensures .1, fifth .put-pair3 .ensures .1, missing .put-field .ensures .1, feed .next),
+    )
 
 pub put-charges-spec : {M : Type 1} → statement M
 put-charges-spec =

@@ -51,9 +51,10 @@ unfolding firstPart
 returns c =
     let month = c .before .before .before .before .before .before .before .before .before .before .before .before .before .before .before .before in
     let kept = c .before .before .before .before .before .before .before .before .before in
-    let reversed = c .before .before in
-    (wrote-then (month .put-pair .ensures .0) (wrote-then (kept .put-pair2 .ensures .0) (reversed .put-pair3 .ensures .0)),
-    omega (arith, month .put-pair .ensures .1, kept .put-pair2 .ensures .1, reversed .put-pair3 .ensures .1))
+    let reversed = c .before .before in (
+      wrote-then (month .put-pair .ensures .0) (wrote-then (kept .put-pair2 .ensures .0) (reversed .put-pair3 .ensures .0)),
+      omega (arith, month .put-pair .ensures .1, kept .put-pair2 .ensures .1, reversed .put-pair3 .ensures .1),
+    )
 
 pub put-first-spec : {M : Type 1} → statement M
 put-first-spec =

@@ -1,7 +1,6 @@
 -- `text_test::long::fill` is safe and ends. The loop's invariant: the buffer keeps its length. Assumes nothing.
 use Prim.Native.Nat.{_-_}
 use mathlib.Core.Path.{_≡_}
-use native.Mathlib.Omega.{arith}
 use lib.ListN.{length}
 use borrow.Author.Needs.{needs}
 use Rattle.text_test.proofs.long.fill.Statement.{statement}
