@@ -38,5 +38,9 @@ pub(crate) fn show_first(name: &[u8], text: &[u8], end: usize) {
 
 // The usual terms, from the start of the buffer on.
 pub(crate) fn put_terms(text: &mut [u8]) -> usize {
-    put_bytes(text, 0, b"open=2024-01-01\nprice=1250\nconnect=5000\ncutoff=1000\nshare=50\n")
+    put_bytes(
+        text,
+        0,
+        b"open=2024-01-01\nprice=1250\nconnect=5000\ncutoff=1000\nshare=50\n",
+    )
 }

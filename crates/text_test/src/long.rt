@@ -43,10 +43,30 @@ fn show_long(name: &[u8], payment: &[u8], piece: &[u8], count: usize) {
 }
 
 pub(crate) fn texts() {
-    show_long(b"65536 bytes: a payment of 6000 and 4675 warnings", b"day=0\ndo=pay\namount=6000\n", b"day=0\ndo=warn\n", 67);
-    show_long(b"65537 bytes: a payment of 60000 and 4675 warnings", b"day=0\ndo=pay\namount=60000\n", b"day=0\ndo=warn\n", 37);
-    show_long(b"65536 bytes: a payment of 6000 and a broken event", b"day=0\ndo=pay\namount=6000\n", b"xxxxxxxxxxxxxx", 65);
-    show_long(b"65537 bytes: a payment of 60000 and a broken event", b"day=0\ndo=pay\namount=60000\n", b"xxxxxxxxxxxxxx", 37);
+    show_long(
+        b"65536 bytes: a payment of 6000 and 4675 warnings",
+        b"day=0\ndo=pay\namount=6000\n",
+        b"day=0\ndo=warn\n",
+        67,
+    );
+    show_long(
+        b"65537 bytes: a payment of 60000 and 4675 warnings",
+        b"day=0\ndo=pay\namount=60000\n",
+        b"day=0\ndo=warn\n",
+        37,
+    );
+    show_long(
+        b"65536 bytes: a payment of 6000 and a broken event",
+        b"day=0\ndo=pay\namount=6000\n",
+        b"xxxxxxxxxxxxxx",
+        65,
+    );
+    show_long(
+        b"65537 bytes: a payment of 60000 and a broken event",
+        b"day=0\ndo=pay\namount=60000\n",
+        b"xxxxxxxxxxxxxx",
+        37,
+    );
 }
 
 pub(crate) fn short_buffer() {
