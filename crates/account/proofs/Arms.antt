@@ -3,9 +3,10 @@ use mathlib.Core.Path.{_≡_, _∙_}
 use borrow.Author.Tests.{eq-eqb, ne-eqb}
 use Rattle.ledger.specs.declared.Event.{Event}
 use Rattle.account.specs.Record.{refused}
-use Rattle.account.specs.Head.{earlyCode, bySort, stepOf, payOf, reverseOf, creditOf, chargeOf, estimateOf, readOf, warnOf, markOf, planOf, disconnectOf, connectOf}
+use Rattle.moves.specs.Moves.{earlyCode}
+use Rattle.account.specs.Head.{bySort, stepOf, payOf, reverseOf, creditOf, chargeOf, estimateOf, readOf, warnOf, markOf, planOf, disconnectOf, connectOf}
 use Rattle.account.specs.declared.Account.{Account}
-use Rattle.account.proofs.Ways.{yes, no}
+use Rattle.moves.proofs.Ways.{yes, no}
 
 module _ (a : Account) (e : Event) where
   pub refused-early : (earlyCode (a .terms) (a .totals) e ≡ 0 → ⊥) → stepOf a e ≡ refused a (earlyCode (a .terms) (a .totals) e)

@@ -1,4 +1,2 @@
-pub mod Ways
-pub mod Early
 pub mod Arms
-pub mod Cost
+pub mod Enters

@@ -4,21 +4,17 @@ use mathlib.Core.Bool.{Bool, true, false, cond, not, _&&_, _||_}
 use mathlib.Core.List.{List}
 use lib.ListN.{getD, set}
 use lib.Dec.{ltb, leb, eqb}
-use Rattle.calendar.specs.Calendar.{weekdayOn, monthOn}
-use Rattle.tariff.specs.Tariff.{costOf}
 use Rattle.terms.specs.Terms.{termsCode}
 use Rattle.terms.specs.declared.Terms.{Terms}
-use Rattle.ledger.specs.Event.{inLimits}
 use Rattle.ledger.specs.declared.Event.{Event}
-use Rattle.account.specs.Record.{blankDay, noPayment, fresh, refused, tallied}
-use Rattle.marks.specs.Marks.{marked, barringOn, latestWarning, weatherNear}
-use Rattle.marks.specs.declared.Found.{Found}
-use Rattle.marks.specs.declared.Found.the-variants.{At, Missing}
-use Rattle.account.specs.declared.Usage.{Usage}
-use Rattle.account.specs.declared.Usage.the-variants.{Blank, Estimated, Metered}
-use Rattle.account.specs.declared.Day.{Day}
-use Rattle.account.specs.declared.Payment.{Payment}
-use Rattle.account.specs.declared.Totals.{Totals}
+use Rattle.moves.specs.Moves.{most, earlyCode, tallied, credited, debited, planned, counted, stands, serves, reversing, byUsage, partIn, chargePlace, costIn, deferralOf, planAllowed, barredOn}
+use Rattle.account.specs.Record.{blankDay, noPayment, fresh, refused}
+use Rattle.marks.specs.Marks.{marked, latestWarning, isMissing}
+use Rattle.moves.specs.declared.Usage.{Usage}
+use Rattle.moves.specs.declared.Usage.the-variants.{Blank, Estimated, Metered}
+use Rattle.moves.specs.declared.Day.{Day}
+use Rattle.moves.specs.declared.Payment.{Payment}
+use Rattle.moves.specs.declared.Totals.{Totals}
 use Rattle.account.specs.declared.Account.{Account}
 use Rattle.account.specs.declared.Posted.{Posted}
 use Rattle.account.specs.declared.Opened.{Opened}
@@ -26,94 +22,7 @@ use Rattle.account.specs.declared.Opened.{Opened}
 abbrev pub openOf : Terms → Opened
 openOf t = record { account = fresh t; code = termsCode t }
 
--- No list of events takes a total past 2 ^ 60: a record that has is no account of this software's, nor is one whose terms are outside their limits.
-abbrev pub most : ℕ
-most = 1152921504606846976
-
-unfoldable pub isAccount : Terms → Totals → Bool
-isAccount t s =
-    eqb (termsCode t) 0
-    && (leb (s .credit) most && (leb (s .debit) most && (leb (s .plan) most && (leb (s .standing) most && leb (s .count) 128))))
-
--- 1 for no account; 2; 3; 4; else 0
-unfoldable pub earlyCode : Terms → Totals → Event → ℕ
-earlyCode t s e =
-    cond (isAccount t s)
-    (cond (ltb (e .day) (s .last) || ltb 399 (e .day)) 2 (cond (inLimits e) (cond (leb 4096 (s .events)) 4 0) 3))
-    1
-
 -- ---- an accepted event's record: what changes, and what stays
-abbrev pub credited : Totals → ℕ → Totals
-credited s n = record {
-  credit = s .credit + n;
-  debit = s .debit;
-  plan = s .plan;
-  standing = s .standing;
-  count = s .count;
-  events = s .events;
-  last = s .last;
-  on = s .on;
-}
-
-abbrev pub debited : Totals → ℕ → Totals
-debited s n = record {
-  credit = s .credit;
-  debit = s .debit + n;
-  plan = s .plan;
-  standing = s .standing;
-  count = s .count;
-  events = s .events;
-  last = s .last;
-  on = s .on;
-}
-
-abbrev pub planned : Totals → ℕ → Totals
-planned s r = record {
-  credit = s .credit;
-  debit = s .debit;
-  plan = r;
-  standing = s .standing;
-  count = s .count;
-  events = s .events;
-  last = s .last;
-  on = s .on;
-}
-
-abbrev pub counted : Totals → ℕ → Totals
-counted s n = record {
-  credit = s .credit;
-  debit = s .debit;
-  plan = s .plan;
-  standing = s .standing;
-  count = n;
-  events = s .events;
-  last = s .last;
-  on = s .on;
-}
-
-abbrev pub stands : Totals → ℕ → Totals
-stands s n = record {
-  credit = s .credit;
-  debit = s .debit;
-  plan = s .plan;
-  standing = n;
-  count = s .count;
-  events = s .events;
-  last = s .last;
-  on = s .on;
-}
-
-abbrev pub serves : Totals → Bool → Totals
-serves s b = record {
-  credit = s .credit;
-  debit = s .debit;
-  plan = s .plan;
-  standing = s .standing;
-  count = s .count;
-  events = s .events;
-  last = s .last;
-  on = b;
-}
 
 -- the event is accepted with the value; only the totals change
 abbrev pub accepted : Account → Totals → ℕ → Posted
@@ -189,7 +98,7 @@ withMarks a l = record {
 
 -- ---- the sorts
 abbrev pub partOf : Account → Event → ℕ
-partOf a e = min (a .totals .plan) (e .amount * a .terms .share / 100)
+partOf a e = partIn (a .terms) (a .totals) e
 
 unfoldable pub payOf : Account → Event → Posted
 payOf a e =
@@ -205,9 +114,6 @@ payOf a e =
 abbrev pub paymentAt : Account → Event → Payment
 paymentAt a e = getD (a .payments) (e .number) noPayment
 
-abbrev pub reversing : Payment → Payment
-reversing p = record { day = p .day; amount = p .amount; part = p .part; reversed = true }
-
 unfoldable pub reverseOf : Account → Event → Posted
 reverseOf a e =
     cond (leb (a .totals .count) (e .number)) (refused a 6)
@@ -222,9 +128,8 @@ reverseOf a e =
 unfoldable pub creditOf : Account → Event → Posted
 creditOf a e = accepted a (credited (tallied (a .totals) (e .day)) (e .amount)) 0
 
--- where the charges of the event's month and kind are summed
 abbrev pub chargeAt : Account → Event → ℕ
-chargeAt a e = 5 * monthOn (a .terms .opened) (e .day) + (e .kind - 1)
+chargeAt a e = chargePlace (a .terms) e
 
 unfoldable pub chargeOf : Account → Event → Posted
 chargeOf a e =
@@ -235,7 +140,7 @@ chargeOf a e =
     0)
 
 abbrev pub newCost : Account → Event → ℕ
-newCost a e = costOf (e .wh) (a .terms .price)
+newCost a e = costIn (a .terms) e
 
 unfoldable pub estimatedOf : Account → Event → Posted
 estimatedOf a e =
@@ -253,12 +158,6 @@ meteredOf a e old =
 
 abbrev pub usageAt : Account → Event → Usage
 usageAt a e = getD (a .days) (e .usage) blankDay .usage
-
--- by the usage day's state
-abbrev pub byUsage : Usage → Posted → (ℕ → Posted) → Posted → Posted
-byUsage Blank b s m = b
-byUsage (Estimated wh cost) b s m = s cost
-byUsage (Metered wh cost) b s m = m
 
 unfoldable pub estimateOf : Account → Event → Posted
 estimateOf a e =
@@ -281,7 +180,7 @@ markOf a e =
     0
 
 abbrev pub deferral : Account → ℕ
-deferral a = a .terms .connect + a .totals .debit - a .totals .credit
+deferral a = deferralOf (a .terms) (a .totals)
 
 unfoldable pub deferredOf : Account → Event → Posted
 deferredOf a e =
@@ -291,11 +190,7 @@ deferredOf a e =
     (deferral a))
 
 abbrev pub planTest : Account → Event → Bool
-planTest a e =
-    cond (eqb (e .kind) 1)
-    (leb (a .totals .credit + 5000) (a .totals .debit)
-    && weatherNear (a .marks) (weekdayOn (a .terms .opened) (e .day)) (e .day))
-    (ltb (a .totals .credit) (a .totals .debit))
+planTest a e = planAllowed (a .terms) (a .totals) (a .marks) e
 
 unfoldable pub planOf : Account → Event → Posted
 planOf a e = cond (planTest a e) (deferredOf a e) (refused a 9)
@@ -303,12 +198,8 @@ planOf a e = cond (planTest a e) (deferredOf a e) (refused a 9)
 unfoldable pub servedOf : Account → Event → Bool → Posted
 servedOf a e b = accepted a (serves (tallied (a .totals) (e .day)) b) 0
 
-abbrev pub isMissing : Found → Bool
-isMissing (At d) = false
-isMissing Missing = true
-
 abbrev pub barredTest : Account → Event → Bool
-barredTest a e = leb 5 (weekdayOn (a .terms .opened) (e .day)) || barringOn (a .marks) (e .day)
+barredTest a e = barredOn (a .terms) (a .marks) e
 
 unfoldable pub disconnectOf : Account → Event → Posted
 disconnectOf a e =

@@ -1,13 +1,12 @@
 -- The account record: a fresh one, and one that a refusal leaves.
-use Prim.Native.Nat.{ℕ, _+_}
+use Prim.Native.Nat.{ℕ}
 use mathlib.Core.Bool.{false}
 use lib.ListN.{replicate}
 use Rattle.terms.specs.declared.Terms.{Terms}
-use Rattle.account.specs.declared.Usage.{Usage}
-use Rattle.account.specs.declared.Usage.the-variants.{Blank, Estimated, Metered}
-use Rattle.account.specs.declared.Day.{Day}
-use Rattle.account.specs.declared.Payment.{Payment}
-use Rattle.account.specs.declared.Totals.{Totals}
+use Rattle.moves.specs.declared.Usage.{Usage}
+use Rattle.moves.specs.declared.Usage.the-variants.{Blank, Estimated, Metered}
+use Rattle.moves.specs.declared.Day.{Day}
+use Rattle.moves.specs.declared.Payment.{Payment}
 use Rattle.account.specs.declared.Account.{Account}
 use Rattle.account.specs.declared.Posted.{Posted}
 
@@ -32,19 +31,6 @@ fresh t = record {
 -- a refusal leaves the account as it came in
 abbrev pub refused : Account → ℕ → Posted
 refused a k = record { account = a; code = k; value = 0 }
-
--- the totals with one more event, of day x
-abbrev pub tallied : Totals → ℕ → Totals
-tallied s x = record {
-  credit = s .credit;
-  debit = s .debit;
-  plan = s .plan;
-  standing = s .standing;
-  count = s .count;
-  events = s .events + 1;
-  last = x;
-  on = s .on;
-}
 
 -- the cost of the estimate that stands on a day
 abbrev pub costHeld : Usage → ℕ

@@ -1,53 +1,16 @@
 // The account record and its step by value.
-// It uses the calendar, the tariff, the terms and the ledger's event; its promises cite specs/Head.antt.
+// It uses the terms, the marks, the moves and the ledger's event; its promises cite specs/Head.antt.
 use ledger::Event;
+use moves::Day;
+use moves::Move;
+use moves::Payment;
+use moves::Totals;
+use moves::Usage;
 use terms::Terms;
 ghost use mathlib.Core.Path.{_≡_};
-ghost use Prim.Native.Nat.{_<_};
+ghost use Prim.Native.Nat.{min};
 ghost use Rattle.account.specs.Head.{stepOf, openOf};
-ghost use Rattle.account.specs.Record.{refused, fresh, tallied};
-
-mod charges;
-mod days;
-mod guard;
-mod payments;
-mod service;
-
-// A usage day's state, with its Wh and cost.
-pub enum Usage {
-    Blank,
-    Estimated { wh: u32, cost: u32 },
-    Metered { wh: u32, cost: u32 },
-}
-
-pub struct Day {
-    pub usage: Usage,
-}
-
-pub struct Payment {
-    pub day: u32,
-    pub amount: u32,
-    // what of the amount went to the plan
-    pub part: u32,
-    pub reversed: bool,
-}
-
-// Credits and debits are separate growing totals: the balance B is credit less debit.
-pub struct Totals {
-    pub credit: u64,
-    pub debit: u64,
-    // the unpaid plan R
-    pub plan: u64,
-    // the cost of the standing estimates
-    pub standing: u64,
-    // payments and events accepted
-    pub count: u32,
-    pub events: u32,
-    // the last accepted event's day
-    pub last: u32,
-    // service
-    pub on: bool,
-}
+ghost use Rattle.account.specs.Record.{fresh};
 
 // One account: its terms, its totals, and what is kept by usage day, day, payment, and month with charge kind.
 pub struct Account {
@@ -74,27 +37,6 @@ pub struct Posted {
 pub struct Opened {
     pub account: Account,
     pub code: u8,
-}
-
-fn refuse(a: Account, k: u8) -> Posted
-    ensures { λ r. ⌜ r ≡ refused a k ⌝ }
-{
-    Posted {
-        account: a,
-        code: k,
-        value: 0,
-    }
-}
-
-// The totals with one more event, of that day.
-fn tally(s: Totals, day: u32) -> Totals
-    requires { ⌜ s .events < 4096 ⌝ }
-    ensures { λ r. ⌜ r ≡ tallied s day ⌝ }
-{
-    let mut n = s;
-    n.events = s.events + 1;
-    n.last = day;
-    n
 }
 
 fn empty(t: Terms) -> Account
@@ -137,29 +79,56 @@ pub fn open(t: Terms) -> Opened
     }
 }
 
+// The nearest place to n among places 0 to `last`.
+fn within(n: u32, last: u32) -> u32
+    ensures { λ r. ⌜ r ≡ min n last ⌝ }
+{
+    if n > last {
+        return last;
+    }
+    n
+}
+
 // One event: the account after it and the answer. A refusal hands the account back as it came in.
+// The record is copied once; the cells that the event may change are read, moved, and written back.
 pub fn step(a: Account, e: Event) -> Posted
     ensures { λ r. ⌜ r ≡ stepOf a e ⌝ }
 {
-    let t = a.terms;
-    let s = a.totals;
-    let early = guard::early(t, s, e);
-    if early != 0 {
-        return refuse(a, early);
-    }
-    let sort = e.sort;
-    match sort {
-        1 => payments::pay(a, e),
-        2 => payments::reverse(a, e),
-        3 => payments::credit(a, e),
-        4 => charges::charge(a, e),
-        5 => days::estimate(a, e),
-        6 => days::read(a, e),
-        7 => service::warn(a, e),
-        8 => service::mark(a, e),
-        9 => service::plan(a, e),
-        10 => service::disconnect(a, e),
-        11 => service::connect(a, e),
-        0 | 12..=4294967295 => refuse(a, 3),
+    let mut b = a;
+    let t = b.terms;
+    let s = b.totals;
+    let number = within(e.number, 127);
+    let payment = b.payments[number as usize];
+    let usage = within(e.usage, 399) as usize;
+    let day = b.days[usage];
+    let at = within(e.day, 399) as usize;
+    let stands = Move {
+        code: 0,
+        value: 0,
+        totals: s,
+        number,
+        payment,
+        day,
+        place: 0,
+        sum: b.charges[0],
+        warned: b.warned[at],
+        kind: 0,
+        from: 1,
+        to: 0,
+    };
+    let m = moves::move_of(t, stands, &b.charges, &b.marks, &b.warned, e);
+    let totals = m.totals;
+    b.totals = totals;
+    let paid = m.payment;
+    b.payments[m.number as usize] = paid;
+    let used = m.day;
+    b.days[usage] = used;
+    b.charges[m.place as usize] = m.sum;
+    b.warned[at] = m.warned;
+    marks::set(&mut b.marks, m.kind, m.from, m.to);
+    Posted {
+        account: b,
+        code: m.code,
+        value: m.value,
     }
 }

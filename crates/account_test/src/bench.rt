@@ -1,10 +1,10 @@
 // The bench: an account, and the counts of the cases tried on it and of those that failed.
 use account::Account;
 use account::Posted;
-use account::Totals;
 use calendar::Date;
 use ledger::Event;
 use libc::STDOUT_FILENO;
+use moves::Totals;
 use terms::Terms;
 
 pub(crate) struct Bench {

@@ -12,8 +12,8 @@ use super::events::read;
 use super::events::warn;
 use account::Account;
 use account::Posted;
-use account::Totals;
 use ledger::Event;
+use moves::Totals;
 
 fn say_line(n: u32, p: Posted) {
     let a = p.account;

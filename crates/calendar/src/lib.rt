@@ -8,6 +8,7 @@ ghost use Rattle.calendar.specs.Calendar.{total, lengthAfter, daysAfter,
 ghost use Rattle.calendar.specs.Calendar.{nextAnswer, weekdayAnswer, dateAnswer, weekdayOn, monthOn, DayAnswer, MonthAnswer};
 ghost use Rattle.calendar.specs.Work.{daysBefore, yearLength, carry, InYear, monthStart};
 
+#[repr(C)]
 pub struct Date {
     pub year: u32,
     pub month: u32,

@@ -5,6 +5,7 @@ ghost use mathlib.Core.List.{map};
 ghost use Rattle.ledger.specs.Figures.{Figure, shown, figures};
 
 // An event as it is posted. Only the fields that its sort names are judged (specs/Event.antt).
+#[repr(C)]
 pub struct Event {
     pub sort: u32,
     pub day: u32,
@@ -18,24 +19,28 @@ pub struct Event {
 }
 
 // What a posted event is answered.
+#[repr(C)]
 pub struct Answer {
     pub code: u8,
     pub value: u64,
 }
 
 // A count of payments and the sum of their amounts, in cents.
+#[repr(C)]
 pub struct Counted {
     pub count: u32,
     pub sum: u64,
 }
 
 // Energy used, in Wh, and its cost, in cents.
+#[repr(C)]
 pub struct Used {
     pub wh: u64,
     pub cost: u64,
 }
 
 // A month's figures (specs/Months.antt). The code is 3 for a month that holds none of the account's days; every figure is 0 then.
+#[repr(C)]
 pub struct Summary {
     pub code: u8,
     pub kept: Counted,

@@ -22,32 +22,30 @@ fn mark_bit(kind: u32) -> u8
     }
 }
 
-// The bytes with the bit set from day `from` to day `to`.
-fn set_range(marks: [u8; 400], bit: u8, from: u32, to: u32) -> [u8; 400]
+// Sets the bit from day `from` to day `to`.
+fn set_range(marks: &mut [u8; 400], bit: u8, from: u32, to: u32)
     requires { ⌜ (from ≤ to) × (to < 400) ⌝ }
-    ensures { λ r. ⌜ r ≡ markRange marks bit from (to + 1 - from) ⌝ }
+    ensures { λ _. ⌜ now (marks .exit) ≡ markRange (now (marks .entry)) bit from (to + 1 - from) ⌝ }
 {
-    let mut m = marks;
     let mut d = from;
     while d <= to {
         let i = d as usize;
-        m[i] = m[i] | bit;
+        marks[i] = marks[i] | bit;
         d += 1;
     }
-    m
 }
 
-// The days' bytes with the kind's mark set from day `from` to day `to`.
-pub fn set(marks: [u8; 400], kind: u32, from: u32, to: u32) -> [u8; 400]
-    ensures { λ r. ⌜ r ≡ marked marks kind from to ⌝ }
+// Sets the kind's mark from day `from` to day `to`.
+pub fn set(marks: &mut [u8; 400], kind: u32, from: u32, to: u32)
+    ensures { λ _. ⌜ now (marks .exit) ≡ marked (now (marks .entry)) kind from to ⌝ }
 {
     if to > 399 {
-        return marks;
+        return;
     }
     if to < from {
-        return marks;
+        return;
     }
-    set_range(marks, mark_bit(kind), from, to)
+    set_range(marks, mark_bit(kind), from, to);
 }
 
 // Whether a mark bars a disconnect on the day.

@@ -20,8 +20,8 @@ use Rattle.ledger.specs.Ledger.{opening, ledgerAfter}
 use Rattle.ledger.specs.Months.{monthOf, inMonth, hasDays, paymentsIn, isReversed, usageIn, meteredWh, meteredCost, estimatedWh, chargesIn, ledgerSummary}
 use Rattle.ledger.proofs.Cases.{decide, both}
 use Rattle.account.specs.Record.{costHeld, fresh}
-use Rattle.account.specs.declared.Usage.{Usage}
-use Rattle.account.specs.declared.Payment.{Payment}
+use Rattle.moves.specs.declared.Usage.{Usage}
+use Rattle.moves.specs.declared.Payment.{Payment}
 use Rattle.account.specs.declared.Account.{Account}
 use Rattle.posting.specs.Posting.{accountAfter}
 use Rattle.refinement.specs.Agree.{Agree, Stands, usageOf, paymentOf}

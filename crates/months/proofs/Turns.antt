@@ -11,10 +11,10 @@ use lib.ListN.{getD}
 use borrow.Author.Tests.{lt-ltb, le-ltb, le-leb, lt-leb}
 use Rattle.calendar.specs.Calendar.{total}
 use Rattle.account.specs.Record.{blankDay, noPayment, costHeld}
-use Rattle.account.specs.declared.Usage.{Usage}
-use Rattle.account.specs.declared.Usage.the-variants.{Blank, Estimated, Metered}
-use Rattle.account.specs.declared.Day.{Day}
-use Rattle.account.specs.declared.Payment.{Payment}
+use Rattle.moves.specs.declared.Usage.{Usage}
+use Rattle.moves.specs.declared.Usage.the-variants.{Blank, Estimated, Metered}
+use Rattle.moves.specs.declared.Day.{Day}
+use Rattle.moves.specs.declared.Payment.{Payment}
 use Rattle.months.specs.Summary.{paymentsBy, whMetered, costMetered, whEstimated, usageBy}
 use Rattle.months.specs.Work.{span, withAmount, withPayment, paidBy, withUsage, withDay, usedBy}
 use Rattle.months.specs.declared.Paid.{Paid}

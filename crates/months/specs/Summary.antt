@@ -18,10 +18,10 @@ use Rattle.ledger.specs.Rules.{Ledger}
 use Rattle.ledger.specs.Ledger.{opening, ledgerAfter}
 use Rattle.ledger.specs.Months.{isReversed, averageOf, noSummary}
 use Rattle.account.specs.Record.{blankDay, noPayment, costHeld, fresh}
-use Rattle.account.specs.declared.Usage.{Usage}
-use Rattle.account.specs.declared.Usage.the-variants.{Blank, Estimated, Metered}
-use Rattle.account.specs.declared.Day.{Day}
-use Rattle.account.specs.declared.Payment.{Payment}
+use Rattle.moves.specs.declared.Usage.{Usage}
+use Rattle.moves.specs.declared.Usage.the-variants.{Blank, Estimated, Metered}
+use Rattle.moves.specs.declared.Day.{Day}
+use Rattle.moves.specs.declared.Payment.{Payment}
 use Rattle.account.specs.declared.Account.{Account}
 use Rattle.posting.specs.Posting.{accountAfter}
 

@@ -8,9 +8,9 @@ use Rattle.ledger.specs.declared.Used.{Used}
 use Rattle.ledger.specs.declared.Summary.{Summary}
 use Rattle.ledger.specs.Months.{isReversed}
 use Rattle.account.specs.Record.{costHeld}
-use Rattle.account.specs.declared.Usage.{Usage}
-use Rattle.account.specs.declared.Day.{Day}
-use Rattle.account.specs.declared.Payment.{Payment}
+use Rattle.moves.specs.declared.Usage.{Usage}
+use Rattle.moves.specs.declared.Day.{Day}
+use Rattle.moves.specs.declared.Payment.{Payment}
 use Rattle.months.specs.Summary.{ofPayment, one, amountOf, countedBy, whMetered, costMetered, whEstimated, meteredBy, estimatedBy, figuresBy}
 use Rattle.months.specs.declared.Paid.{Paid}
 use Rattle.months.specs.declared.Usages.{Usages}

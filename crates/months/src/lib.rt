@@ -1,12 +1,12 @@
 // A month's figures off the account record.
 // It uses the calendar and the account. The promise says the figures twice: off the record, and in the ledger's terms.
 use account::Account;
-use account::Day;
-use account::Payment;
-use account::Usage;
 use ledger::Counted;
 use ledger::Summary;
 use ledger::Used;
+use moves::Day;
+use moves::Payment;
+use moves::Usage;
 ghost use mathlib.Core.Path.{_≡_};
 ghost use Prim.Native.Nat.{ℕ, _+_, _≤_, min};
 ghost use Rattle.terms.specs.declared.Terms.{Terms};

@@ -2,11 +2,11 @@
 // lends them, and says what was left; its promise is the call's own.
 // The lines of the file stdout are worked out from document 01 by hand; none is copied from a run.
 use account::Account;
-use account::Totals;
 use calendar::Date;
 use ledger::Answer;
 use ledger::Event;
 use libc::STDOUT_FILENO;
+use moves::Totals;
 use terms::Terms;
 ghost use Rattle.account.specs.Head.{stepOf};
 ghost use Rattle.posting.specs.Posting.{IsPosted, IsRow, rowOf};

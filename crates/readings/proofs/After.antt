@@ -16,9 +16,10 @@ use Rattle.ledger.specs.Ledger.{opening, ledgerStep, ledgerAfter}
 use Rattle.ledger.proofs.Money.{diff, diff-add, diff-sub}
 use Rattle.ledger.proofs.Identity.{Sane, settled-is}
 use Rattle.account.specs.Record.{fresh}
-use Rattle.account.specs.Head.{most, stepOf}
+use Rattle.moves.specs.Moves.{most}
+use Rattle.account.specs.Head.{stepOf}
 use Rattle.account.specs.declared.Account.{Account}
-use Rattle.account.specs.declared.Totals.{Totals}
+use Rattle.moves.specs.declared.Totals.{Totals}
 use Rattle.posting.specs.Posting.{accountAfter}
 use Rattle.refinement.specs.Agree.{Sums, Bounds, Stands}
 use Rattle.refinement.proofs.Refines.{refinement-holds}

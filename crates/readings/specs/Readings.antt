@@ -11,8 +11,8 @@ use Rattle.ledger.specs.declared.Event.{Event}
 use Rattle.ledger.specs.Rules.{Ledger}
 use Rattle.ledger.specs.Ledger.{opening, ledgerAfter}
 use Rattle.account.specs.Record.{fresh}
-use Rattle.account.specs.Head.{most}
-use Rattle.account.specs.declared.Totals.{Totals}
+use Rattle.moves.specs.Moves.{most}
+use Rattle.moves.specs.declared.Totals.{Totals}
 use Rattle.posting.specs.Posting.{accountAfter}
 
 -- by the totals alone; 0 where they are past any account's reach

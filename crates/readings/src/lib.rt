@@ -1,6 +1,6 @@
 // The reading calls: balance, unpaid plan, service, settled amount, cost of the standing estimates.
 // It uses the account's totals. Each promise says the answer twice: off the totals, and in the ledger's terms.
-use account::Totals;
+use moves::Totals;
 ghost use mathlib.Core.Path.{_≡_};
 ghost use Prim.Native.Nat.{_≤_};
 ghost use lib.IntN.{pos, _-ℤ_};

@@ -22,11 +22,11 @@ use Rattle.ledger.proofs.Cases.{neither}
 use Rattle.ledger.proofs.Accepted.{Accepted, accepted-by}
 use Rattle.ledger.proofs.Identity.{Sane, standing-then}
 use Rattle.account.specs.Record.{blankDay, noPayment, refused}
-use Rattle.account.specs.Head.{isAccount, earlyCode}
+use Rattle.moves.specs.Moves.{isAccount, earlyCode}
 use Rattle.account.specs.declared.Account.{Account}
-use Rattle.account.specs.declared.Totals.{Totals}
+use Rattle.moves.specs.declared.Totals.{Totals}
 use Rattle.account.specs.declared.Posted.{Posted}
-use Rattle.account.proofs.Early.{Early, early}
+use Rattle.moves.proofs.Early.{Early, early}
 use Rattle.refinement.specs.Agree.{Agree, Sums, Bounds, Kept, Sizes, Same, usageOf, paymentOf, marksOf, warnedOn}
 use Rattle.refinement.proofs.Refusals.{Passes, refuses}
 use Rattle.refinement.proofs.Keeps.{amounts-keep, charged-keep, held-keep}

@@ -23,11 +23,11 @@ use Rattle.ledger.specs.Months.{chargesIn, monthOf}
 use Rattle.ledger.proofs.Cases.{decide, both}
 use Rattle.account.specs.Record.{blankDay, noPayment, costHeld}
 use Rattle.account.specs.declared.Account.{Account}
-use Rattle.account.specs.declared.Payment.{Payment}
-use Rattle.account.specs.declared.Day.{Day}
-use Rattle.account.specs.declared.Usage.the-variants.{Blank, Estimated, Metered}
-use Rattle.account.proofs.Cost.{cost-limit}
-use Rattle.account.proofs.Early.{amount-limits, charge-limits, usage-limits}
+use Rattle.moves.specs.declared.Payment.{Payment}
+use Rattle.moves.specs.declared.Day.{Day}
+use Rattle.moves.specs.declared.Usage.the-variants.{Blank, Estimated, Metered}
+use Rattle.moves.proofs.Cost.{cost-limit}
+use Rattle.moves.proofs.Early.{amount-limits, charge-limits, usage-limits}
 use Rattle.refinement.specs.Agree.{Kept, usageOf, paymentOf, marksOf, warnedOn}
 use Rattle.refinement.proofs.Fields as F
 

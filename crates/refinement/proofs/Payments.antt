@@ -26,8 +26,8 @@ use Rattle.ledger.proofs.Identity.{Sane}
 use Rattle.account.specs.Record.{refused, noPayment}
 use Rattle.account.specs.Head.{payOf, reverseOf, creditOf, chargeOf, partOf, paymentAt, chargeAt}
 use Rattle.account.specs.declared.Account.{Account}
-use Rattle.account.specs.declared.Payment.{Payment}
-use Rattle.account.proofs.Early.{amount-limits, charge-limits}
+use Rattle.moves.specs.declared.Payment.{Payment}
+use Rattle.moves.proofs.Early.{amount-limits, charge-limits}
 use Rattle.refinement.specs.Agree.{Agree, Sums, Bounds, Sizes, Same, paymentOf}
 use Rattle.refinement.proofs.Fields.{payments-same, payments-one}
 use Rattle.refinement.proofs.Refusals.{Passes, pay-code, reverse-code, credit-code, charge-code, takes, pay-move, reverse-move, credit-move, charge-move}

@@ -21,7 +21,8 @@ use Rattle.ledger.specs.Entries as entries
 use Rattle.ledger.proofs.Cases.{decide}
 use Rattle.ledger.proofs.Identity.{Sane, sane-valid, sane-step}
 use Rattle.account.specs.Record.{fresh, blankDay, noPayment}
-use Rattle.account.specs.Head.{earlyCode, bySort, stepOf}
+use Rattle.moves.specs.Moves.{earlyCode}
+use Rattle.account.specs.Head.{bySort, stepOf}
 use Rattle.account.specs.declared.Account.{Account}
 use Rattle.refinement.specs.Agree.{Agree, Same, warnedOn, Stands, Refinement}
 use Rattle.refinement.proofs.Refusals.{Passes, code-2, code-3, code-4}

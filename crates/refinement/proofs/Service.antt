@@ -28,12 +28,13 @@ use Rattle.ledger.specs.Ledger.{Move, serviceMove, planMove, deferred, moveOf, 
 use Rattle.ledger.proofs.Cases.{decide, both}
 use Rattle.ledger.proofs.Money.{diff, diff-eq, diff-zero, diff-lt, diff-ge, diff-low, diff-gap}
 use Rattle.ledger.proofs.Identity.{Sane}
-use Rattle.account.specs.Record.{refused, tallied}
-use Rattle.account.specs.Head as head
+use Rattle.moves.specs.Moves.{tallied}
+use Rattle.account.specs.Record.{refused}
+use Rattle.moves.specs.Moves as moves
 use Rattle.account.specs.Head.{warnOf, markOf, deferral, deferredOf, planTest, planOf, servedOf, barredTest, disconnectOf, connectOf}
 use Rattle.account.specs.declared.Account.{Account}
 use Rattle.account.specs.declared.Posted.{Posted}
-use Rattle.account.proofs.Early.{mark-limits}
+use Rattle.moves.proofs.Early.{mark-limits}
 use Rattle.refinement.specs.Agree.{Agree, Sums, Bounds, Sizes, Same, marksOf, warnedOn}
 use Rattle.refinement.proofs.Fields.{payments-same}
 use Rattle.refinement.proofs.Refusals.{Passes, warn-code, mark-code, plan-code, disconnect-code, connect-code, takes, warn-move, mark-move, plan-move, disconnect-move, connect-move}
@@ -119,7 +120,7 @@ module _ (t : Terms) (a : Account) (l : Ledger) (e : Event) (g : Agree t a l) (s
       (diff-lt (a .totals .credit) (a .totals .debit) 0 ∙ ap (λ (n : ℕ). ltb (a .totals .credit) n) (add-zero (a .totals .debit))))
 
   -- the totals of an event that moves no sum
-  still-sums : (b c : Bool) → b ≡ c → refusal t l e ≡ 0 → isPay e ≡ false → isRead e ≡ false → isEstimate e ≡ false → Sums t (head.serves (tallied (a .totals) (e .day)) b) (moved l e (serviceMove l c))
+  still-sums : (b c : Bool) → b ≡ c → refusal t l e ≡ 0 → isPay e ≡ false → isRead e ≡ false → isEstimate e ≡ false → Sums t (moves.serves (tallied (a .totals) (e .day)) b) (moved l e (serviceMove l c))
   unfolding lastDay
   still-sums b c q z f r i = record {
     events = omega (arith, g .sums .events);
@@ -131,7 +132,7 @@ module _ (t : Terms) (a : Account) (l : Ledger) (e : Event) (g : Agree t a l) (s
     count = g .sums .count ∙ sym (payments-same e 0 (l .list) f);
   }
 
-  still-bounds : (b : Bool) → Bounds (head.serves (tallied (a .totals) (e .day)) b)
+  still-bounds : (b : Bool) → Bounds (moves.serves (tallied (a .totals) (e .day)) b)
   still-bounds b = record {
     full = room;
     count = g .bounds .count;

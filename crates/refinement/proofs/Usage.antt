@@ -22,12 +22,13 @@ use Rattle.ledger.proofs.Cases.{decide, neither}
 use Rattle.ledger.proofs.Money.{diff, diff-add, diff-sub}
 use Rattle.ledger.proofs.Identity.{Sane, blank-is}
 use Rattle.account.specs.Record.{refused, blankDay, costHeld}
-use Rattle.account.specs.Head.{estimateOf, estimatedOf, readOf, meteredOf, newCost, usageAt, byUsage}
-use Rattle.account.specs.declared.Usage.{Usage}
+use Rattle.moves.specs.Moves.{byUsage}
+use Rattle.account.specs.Head.{estimateOf, estimatedOf, readOf, meteredOf, newCost, usageAt}
+use Rattle.moves.specs.declared.Usage.{Usage}
 use Rattle.account.specs.declared.Account.{Account}
 use Rattle.account.specs.declared.Posted.{Posted}
-use Rattle.account.proofs.Cost.{cost-limit}
-use Rattle.account.proofs.Early.{usage-limits}
+use Rattle.moves.proofs.Cost.{cost-limit}
+use Rattle.moves.proofs.Early.{usage-limits}
 use Rattle.refinement.specs.Agree.{Agree, Sums, Bounds, Sizes, Same, usageOf}
 use Rattle.refinement.proofs.Fields.{payments-same, usage-estimated, usage-metered}
 use Rattle.refinement.proofs.Refusals.{Passes, estimate-code, read-code, takes, estimate-move, read-move}

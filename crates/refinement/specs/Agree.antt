@@ -18,10 +18,10 @@ use Rattle.ledger.specs.Sums.{standing}
 use Rattle.ledger.specs.Months.{chargesIn}
 use Rattle.account.specs.Record.{blankDay, noPayment, costHeld, fresh}
 use Rattle.account.specs.Head.{stepOf}
-use Rattle.account.specs.declared.Usage.{Usage}
-use Rattle.account.specs.declared.Usage.the-variants.{Blank, Estimated, Metered}
-use Rattle.account.specs.declared.Payment.{Payment}
-use Rattle.account.specs.declared.Totals.{Totals}
+use Rattle.moves.specs.declared.Usage.{Usage}
+use Rattle.moves.specs.declared.Usage.the-variants.{Blank, Estimated, Metered}
+use Rattle.moves.specs.declared.Payment.{Payment}
+use Rattle.moves.specs.declared.Totals.{Totals}
 use Rattle.account.specs.declared.Account.{Account}
 use Rattle.account.specs.declared.Posted.{Posted}
 

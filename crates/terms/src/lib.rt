@@ -3,6 +3,7 @@ use calendar::Date;
 ghost use mathlib.Core.Path.{_≡_};
 ghost use Rattle.terms.specs.Terms.{termsCode};
 
+#[repr(C)]
 pub struct Terms {
     pub opened: Date,
     // hundredths of a cent per kWh

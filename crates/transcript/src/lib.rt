@@ -2,7 +2,7 @@
 // It uses the scanner, the account's step, the readings and the printing. Its promise cites specs/Transcript.antt, and inside the crate
 // specs/Work.antt.
 use account::Account;
-use account::Totals;
+use moves::Totals;
 use printing::put_bytes;
 use printing::put_number;
 use printing::put_signed;

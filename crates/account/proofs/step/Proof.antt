@@ -1,142 +1,124 @@
--- `account::step` meets its contract: each arm by the step of its sort.
+-- `account::step` meets its contract: the move of what stands, written into the record.
 -- Assumes nothing.
-use mathlib.Core.Path.{_≡_, sym, ap, _∙_}
-use mathlib.Core.Logic.{_⊎_, inl, inr}
-use Prim.Native.Nat.{ℕ, _+_, _≤_, zero-le}
-use native.Mathlib.Omega.{arith}
 use borrow.Author.Needs.{needs}
-use Rattle.account.specs.Head.{earlyCode}
-use Rattle.account.specs.Record.{refused}
-use Rattle.account.proofs.Early.{early, no-other}
-use Rattle.account.proofs.Arms as arms
+use mathlib.Core.Path.{_≡_, sym, ap, _∙_}
+use native.Mathlib.Omega.{arith}
+use Rattle.moves.specs.Moves.{moveOf}
+use Rattle.account.specs.Head.{stepOf}
+use Rattle.account.proofs.Enters.{Enters, standing, entering, numberAt, usedAt, dayAt, entered}
 use Rattle.account.proofs.step.Statement.{statement}
 use Rattle.account.proofs.step.Tie as tie
+use Rattle.account.proofs.step.Reads as reads
+use Rattle.account.proofs.step.Lts as lts
+use Rattle.account.proofs.within.Reads as within-reads
+use Rattle.marks.proofs.set.Reads as set-reads
+use Rattle.moves.proofs.move_of.Reads as move-of-reads
 
-passed : (c : tie.Else1) → let s = c .before .before .before .before .args in earlyCode (s .a .terms) (s .a .totals) (s .e) ≡ 0
-passed c = sym (c .before .early .ensures) ∙ c .if1 .left
+-- the move that was made is that of what stands in the record
+moved : (c : tie.After-move-of) → let a = c .before .before .before .before .before .before .before .before .before .before .before .before .before .before .args .a in let e = c .before .before .before .before .before .before .before .before .before .before .before .before .before .before .args .e in c .move-of .result ≡ moveOf (a .terms) (standing a e (numberAt e) (usedAt e) (dayAt e)) (a .charges) (a .marks) (a .warned) e
+moved c = rw (c .before .before .before .before .before .before .before .before .before .before .before .within .ensures, c .before .before .before .before .before .before .before .before .before .within2 .ensures, c .before .before .before .before .before .before .before .within3 .ensures) at (c .move-of .ensures)
 
--- a number that is none of the next six
-six : (n low : ℕ) → low ≤ n → (n ≡ low → ⊥) → (n ≡ low + 1 → ⊥) → (n ≡ low + 2 → ⊥) → (n ≡ low + 3 → ⊥) → (n ≡ low + 4 → ⊥) → (n ≡ low + 5 → ⊥) → low + 6 ≤ n
-six n low h a b c d e f = omega arith
+-- its places are there, and the record it is written into is the step's
+enters : (c : tie.After-move-of) → let a = c .before .before .before .before .before .before .before .before .before .before .before .before .before .before .args .a in let e = c .before .before .before .before .before .before .before .before .before .before .before .before .before .before .args .e in Enters a (usedAt e) (dayAt e) (c .move-of .result) (stepOf a e)
+enters c = rw (moved c) (entered _ _)
 
--- in the last arm the sort is none of the others
-other : (c : tie.At-match-came) → let n = c .before .before .before .before .before .args .e .sort in (n ≡ 0) ⊎ (12 ≤ n)
-other c = elim (c .match .came) [
-  | inl w ↦ inl (w .keys12)
-  | inr w ↦ let r = w .rest .0 in
-      let low = r .0 .0 .0 .0 .0 .0 in
-      inr (six _ 6 (six _ 0 zero-le (w .rest .1) (low .0 .0 .0 .0 .1) (low .0 .0 .0 .1) (low .0 .0 .1) (low .0 .1) (low .1)) (r .0 .0 .0 .0 .0 .1) (r .0 .0 .0 .0 .1) (r .0 .0 .0 .1) (r .0 .0 .1) (r .0 .1) (r .1))
-]
+within-requires : tie.Need-within-requires
+within-requires c κs = search needs
 
-early-requires : tie.Need-early-requires
-early-requires c κs = search needs
+cast-payment : tie.Need-cast-payment
+cast-payment c = search needs
 
-refuse-requires : tie.Need-refuse-requires
-refuse-requires c κs = search needs
+mul-payment : tie.Need-mul-payment
+mul-payment c = search needs
+
+element-copy-out-payment : tie.Need-element-copy-out-payment
+element-copy-out-payment c = search needs
+
+within-requires-2 : tie.Need-within-requires-2
+within-requires-2 c κs = search needs
+
+cast-usage : tie.Need-cast-usage
+cast-usage c = search needs
+
+mul-day : tie.Need-mul-day
+mul-day c = search needs
+
+element-copy-out-day : tie.Need-element-copy-out-day
+element-copy-out-day c = search needs
+
+within-requires-3 : tie.Need-within-requires-3
+within-requires-3 c κs = search needs
+
+cast-at : tie.Need-cast-at
+cast-at c = search needs
+
+element-copy-out-t27 : tie.Need-element-copy-out-t27
+element-copy-out-t27 c = search needs
+
+element-copy-out-t30 : tie.Need-element-copy-out-t30
+element-copy-out-t30 c = search needs
+
+move-of-requires : tie.Need-move-of-requires
+move-of-requires c κs = search needs
+
+cast-paid : tie.Need-cast-paid
+cast-paid c = search needs
+
+mul-paid : tie.Need-mul-paid
+mul-paid c = search needs
+
+element-set-from-paid : tie.Need-element-set-from-paid
+element-set-from-paid c = enters (c .before .before .before) .number
+
+mul-used : tie.Need-mul-used
+mul-used c = search needs
+
+element-set-from-used : tie.Need-element-set-from-used
+element-set-from-used c = search needs
+
+cast-b : tie.Need-cast-b
+cast-b c = search needs
+
+mul-b : tie.Need-mul-b
+mul-b c = search needs
+
+element-write-b : tie.Need-element-write-b
+element-write-b c = enters (c .before .before .before .before .before) .place
+
+element-write-b-2 : tie.Need-element-write-b-2
+element-write-b-2 c = omega (arith, c .before .before .before .before .before .before .before .before .before .before .before .before .within3 .ensures)
+
+set-requires : tie.Need-set-requires
+set-requires c κs = search needs
 
 returns : tie.Need-returns
-returns c = c .refuse .ensures ∙ ap (refused _) (c .before .before .early .ensures) ∙ sym (arms.refused-early _ _ (λ z. c .before .if1 .taken (c .before .before .early .ensures ∙ z)))
-
-pay-requires : tie.Need-pay-requires
-pay-requires c κs = search needs
-
-reverse-requires : tie.Need-reverse-requires
-reverse-requires c κs = search needs
-
-credit-requires : tie.Need-credit-requires
-credit-requires c κs = search needs
-
-charge-requires : tie.Need-charge-requires
-charge-requires c κs = search needs
-
-estimate-requires : tie.Need-estimate-requires
-estimate-requires c κs = search needs
-
-read-requires : tie.Need-read-requires
-read-requires c κs = search needs
-
-warn-requires : tie.Need-warn-requires
-warn-requires c κs = search needs
-
-mark-requires : tie.Need-mark-requires
-mark-requires c κs = search needs
-
-plan-requires : tie.Need-plan-requires
-plan-requires c κs = search needs
-
-disconnect-requires : tie.Need-disconnect-requires
-disconnect-requires c κs = search needs
-
-connect-requires : tie.Need-connect-requires
-connect-requires c κs = search needs
-
-refuse-requires-2 : tie.Need-refuse-requires-2
-refuse-requires-2 c κs = search needs
-
-returns-2 : tie.Need-returns-2
-returns-2 c = c .pay .ensures ∙ sym (arms.pays _ _ (passed (c .before .before)) (c .before .match .keys1))
-
-returns-3 : tie.Need-returns-3
-returns-3 c = c .reverse .ensures ∙ sym (arms.reverses _ _ (passed (c .before .before)) (c .before .match .keys2))
-
-returns-4 : tie.Need-returns-4
-returns-4 c = c .credit .ensures ∙ sym (arms.credits _ _ (passed (c .before .before)) (c .before .match .keys3))
-
-returns-5 : tie.Need-returns-5
-returns-5 c = c .charge .ensures ∙ sym (arms.charges _ _ (passed (c .before .before)) (c .before .match .keys4))
-
-returns-6 : tie.Need-returns-6
-returns-6 c = c .estimate .ensures ∙ sym (arms.estimates _ _ (passed (c .before .before)) (c .before .match .keys5))
-
-returns-7 : tie.Need-returns-7
-returns-7 c = c .read .ensures ∙ sym (arms.reads _ _ (passed (c .before .before)) (c .before .match .keys6))
-
-returns-8 : tie.Need-returns-8
-returns-8 c = c .warn .ensures ∙ sym (arms.warns _ _ (passed (c .before .before)) (c .before .match .keys7))
-
-returns-9 : tie.Need-returns-9
-returns-9 c = c .mark .ensures ∙ sym (arms.marks _ _ (passed (c .before .before)) (c .before .match .keys8))
-
-returns-10 : tie.Need-returns-10
-returns-10 c = c .plan .ensures ∙ sym (arms.plans _ _ (passed (c .before .before)) (c .before .match .keys9))
-
-returns-11 : tie.Need-returns-11
-returns-11 c = c .disconnect .ensures ∙ sym (arms.disconnects _ _ (passed (c .before .before)) (c .before .match .keys10))
-
-returns-12 : tie.Need-returns-12
-returns-12 c = c .connect .ensures ∙ sym (arms.connects _ _ (passed (c .before .before)) (c .before .match .keys11))
-
-returns-13 : tie.Need-returns-13
-returns-13 c = absurd (no-other _ (early _ _ _ (passed (c .before .before)) .limits) (other (c .before)))
+returns c = rw (c .set .ensures, c .before .before .before .before .before .before .before .before .before .before .before .before .before .before .before .before .within2 .ensures, c .before .before .before .before .before .before .before .before .before .before .before .before .before .before .within3 .ensures) (enters (c .before .before .before .before .before .before .before) .same)
 
 pub step-spec : {M : Type 1} → statement M
 step-spec =
     tie.close
     (tie.spec
-    early-requires
-    refuse-requires
-    returns
-    pay-requires
-    reverse-requires
-    credit-requires
-    charge-requires
-    estimate-requires
-    read-requires
-    warn-requires
-    mark-requires
-    plan-requires
-    disconnect-requires
-    connect-requires
-    refuse-requires-2
-    returns-2
-    returns-3
-    returns-4
-    returns-5
-    returns-6
-    returns-7
-    returns-8
-    returns-9
-    returns-10
-    returns-11
-    returns-12
-    returns-13)
+    within-requires
+    cast-payment
+    mul-payment
+    element-copy-out-payment
+    within-requires-2
+    cast-usage
+    mul-day
+    element-copy-out-day
+    within-requires-3
+    cast-at
+    element-copy-out-t27
+    element-copy-out-t30
+    move-of-requires
+    cast-paid
+    mul-paid
+    element-set-from-paid
+    mul-used
+    element-set-from-used
+    cast-b
+    mul-b
+    element-write-b
+    element-write-b-2
+    set-requires
+    returns)

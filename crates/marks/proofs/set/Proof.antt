@@ -26,7 +26,7 @@ set-range-requires c κs = search needs
 
 returns-3 : tie.Need-returns-3
 unfolding marked
-returns-3 c = simp (le-leb _ _ (c .before .before .before .if1 .left)) (rw (c .before .mark-bit .ensures) at (c .set-range .ensures))
+returns-3 c = simp (le-leb _ _ (c .before .before .before .before .if1 .left)) (rw (c .before .mark-bit .ensures) at (c .set-range .ensures))
 
 pub set-spec : {M : Type 1} → statement M
 set-spec = tie.close (tie.spec returns returns-2 mark-bit-requires set-range-requires returns-3)

@@ -8,10 +8,10 @@ use Rattle.marks.proofs.set_range.Statement.{statement}
 use Rattle.marks.proofs.set_range.Tie as tie
 
 abbrev Inv-loop : tie.InvT-loop
-Inv-loop bit from to m₀ d₀ m d = (from ≤ d) × (d ≤ to + 1) × (m ≡ markRange m₀ bit from (d - from))
+Inv-loop marks₀ bit from to d₀ marks d = (from ≤ d) × (d ≤ to + 1) × (marks ≡ markRange marks₀ bit from (d - from))
 
 abbrev μ-loop : tie.MeasureT-loop
-μ-loop bit from to m₀ d₀ m d = to + 1 - d
+μ-loop marks₀ bit from to d₀ marks d = to + 1 - d
 
 loop-holds : tie.Need-loop-holds Inv-loop μ-loop
 loop-holds c = (search needs, search needs, mark-none _ _ _)
@@ -19,11 +19,11 @@ loop-holds c = (search needs, search needs, mark-none _ _ _)
 cast-i : tie.Need-cast-i Inv-loop μ-loop
 cast-i c = search needs
 
-array-read-m : tie.Need-array-read-m Inv-loop μ-loop
-array-read-m c = search needs
+element-copy-out-marks : tie.Need-element-copy-out-marks Inv-loop μ-loop
+element-copy-out-marks c = search needs
 
-array-write-m : tie.Need-array-write-m Inv-loop μ-loop
-array-write-m c = search needs
+element-write-marks : tie.Need-element-write-marks Inv-loop μ-loop
+element-write-marks c = search needs
 
 add-d : tie.Need-add-d Inv-loop μ-loop
 add-d c = search needs
@@ -32,7 +32,7 @@ loop-less : tie.Need-loop-less Inv-loop μ-loop
 loop-less c = search needs
 
 loop-again : tie.Need-loop-again Inv-loop μ-loop
-loop-again c = let l = c .before .loop in (search needs, search needs, rw (mark-turn _ _ _ (l .d) (l .inv .0), l .inv .2))
+loop-again c = let l = c .before .before .loop in (search needs, search needs, rw (mark-turn _ _ _ (l .d) (l .inv .0), l .inv .2))
 
 returns : tie.Need-returns Inv-loop μ-loop
 returns c =
@@ -49,8 +49,8 @@ set-range-spec =
     μ-loop
     loop-holds
     cast-i
-    array-read-m
-    array-write-m
+    element-copy-out-marks
+    element-write-marks
     add-d
     loop-less
     loop-again

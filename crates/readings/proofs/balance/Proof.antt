@@ -5,7 +5,7 @@ use lib.IntN.{ℤ}
 use native.Mathlib.Omega.{arith}
 use borrow.Author.Needs.{needs}
 use borrow.Author.Tests.{le-leb, lt-leb}
-use Rattle.account.specs.declared.Totals.{Totals}
+use Rattle.moves.specs.declared.Totals.{Totals}
 use Rattle.readings.specs.Readings.{balanceOf, IsLedgers}
 use Rattle.readings.proofs.After.{balance-made}
 use Rattle.readings.proofs.Range.{back, diff-fits}

@@ -1,0 +1,34 @@
+-- Posts over images are the record's posts. Assumes nothing.
+use mathlib.Core.Path.{_≡_, ap, _∙_}
+use mathlib.Core.Bool.{false}
+use Rattle.ledger.specs.declared.Event.{Event}
+use Rattle.ledger.proofs.Cases.{decide}
+use Rattle.account.specs.Head.{stepOf}
+use Rattle.account.specs.declared.Account.{Account}
+use Rattle.moves.proofs.Ways.{yes, no}
+use Rattle.image.specs.declared.Image.{Image}
+use Rattle.image.specs.Image.{isImage, accountOf, imageOf, imageAfter, postedOf, Carried}
+use Rattle.image.proofs.Conversions.{inverse-holds}
+use Rattle.image.proofs.Refused.{leaves, no-account}
+
+module _ (e : Event) where
+  post-is : (a : Account) → postedOf (imageOf a) e ≡ record { image = imageOf (stepOf a e .account); code = stepOf a e .code; value = stepOf a e .value }
+  unfolding postedOf imageAfter
+  post-is a =
+      let b = inverse-holds .record-back a in
+      let m = yes (isImage (imageOf a)) (imageOf (stepOf (accountOf (imageOf a)) e .account)) (imageOf a) (inverse-holds .image a) in
+      λ k. record { image = (m ∙ ap (λ (x : Account). imageOf (stepOf x e .account)) b) k; code = stepOf (b k) e .code; value = stepOf (b k) e .value }
+
+  refusal-is : (i : Image) → (postedOf i e .code ≡ 0 → ⊥) → postedOf i e .image ≡ i
+  unfolding postedOf imageAfter
+  refusal-is i n =
+      decide (isImage i)
+      (λ t. yes (isImage i) _ _ t ∙ ap imageOf (leaves (accountOf i) e .same n) ∙ inverse-holds .image-back i t)
+      (λ f. no (isImage i) _ _ f)
+
+  other-is : (i : Image) → isImage i ≡ false → postedOf i e .code ≡ 1
+  unfolding postedOf accountOf
+  other-is i f = ap (λ (x : Account). stepOf x e .code) (no (isImage i) _ _ f) ∙ no-account e
+
+pub carried-holds : Carried
+carried-holds = record { post = λ a e. post-is e a; refusal = λ i e. refusal-is e i; other = λ i e. other-is e i }

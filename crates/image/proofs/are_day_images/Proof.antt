@@ -1,0 +1,63 @@
+-- `image::are_day_images` meets its contract. The loop's invariant: what is left gives the same.
+-- Assumes nothing.
+use Prim.Native.Nat.{_-_}
+use mathlib.Core.Path.{sym, _∙_}
+use borrow.Author.Needs.{needs}
+use borrow.Author.Tests.{not-true, not-false}
+use Rattle.image.specs.Image.{isDayImage}
+use Rattle.image.proofs.Lists.{Rest, starts, passes, stops, none-left}
+use Rattle.image.proofs.are_day_images.Statement.{statement}
+use Rattle.image.proofs.are_day_images.Tie as tie
+
+abbrev Inv-loop : tie.InvT-loop
+Inv-loop l i₀ i = Rest isDayImage 400 l i
+
+abbrev μ-loop : tie.MeasureT-loop
+μ-loop l i₀ i = 400 - i
+
+loop-holds : tie.Need-loop-holds Inv-loop μ-loop
+loop-holds c = starts isDayImage 400 _ (search needs)
+
+mul-is-day-image : tie.Need-mul-is-day-image Inv-loop μ-loop
+mul-is-day-image c = search needs
+
+array-copy-out-is-day-image : tie.Need-array-copy-out-is-day-image Inv-loop μ-loop
+array-copy-out-is-day-image c = search needs
+
+is-day-image-requires : tie.Need-is-day-image-requires Inv-loop μ-loop
+is-day-image-requires c κs = search needs
+
+returns : tie.Need-returns Inv-loop μ-loop
+returns c =
+    let l = c .before .before .before .before .loop in
+    sym (stops isDayImage 400 _ (l .i) _ (c .before .before .before .loop-test .taken) (sym (c .before .is-day-image .ensures) ∙ not-true _ (c .if1 .taken)) (l .inv))
+
+add-i : tie.Need-add-i Inv-loop μ-loop
+add-i c = search needs
+
+loop-less : tie.Need-loop-less Inv-loop μ-loop
+loop-less c = search needs
+
+loop-again : tie.Need-loop-again Inv-loop μ-loop
+loop-again c =
+    let l = c .before .before .before .before .loop in
+    passes isDayImage 400 _ (l .i) _ (c .before .before .before .loop-test .taken) (sym (c .before .is-day-image .ensures) ∙ not-false _ (c .if1 .left)) (l .inv)
+
+returns-2 : tie.Need-returns-2 Inv-loop μ-loop
+returns-2 c = let l = c .before .loop in sym (none-left isDayImage 400 _ (l .i) (c .loop-test .left) (l .inv))
+
+pub are-day-images-spec : {M : Type 1} → statement M
+are-day-images-spec =
+    tie.close
+    (tie.spec
+    Inv-loop
+    μ-loop
+    loop-holds
+    mul-is-day-image
+    array-copy-out-is-day-image
+    is-day-image-requires
+    returns
+    add-i
+    loop-less
+    loop-again
+    returns-2)

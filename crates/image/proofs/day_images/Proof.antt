@@ -1,0 +1,63 @@
+-- `image::day_images` meets its contract. The loop's invariant: the days passed are mapped.
+-- Assumes nothing.
+use Prim.Native.Nat.{_-_}
+use borrow.Author.Needs.{needs}
+use Rattle.image.specs.Image.{dayImage}
+use Rattle.image.proofs.Lists.{Mapped, begins, turn, ends}
+use Rattle.image.proofs.day_images.Statement.{statement}
+use Rattle.image.proofs.day_images.Tie as tie
+
+abbrev Inv-loop : tie.InvT-loop
+Inv-loop l images₀ i₀ images i = Mapped dayImage 400 l images i
+
+abbrev μ-loop : tie.MeasureT-loop
+μ-loop l images₀ i₀ images i = 400 - i
+
+loop-holds : tie.Need-loop-holds Inv-loop μ-loop
+loop-holds c = begins dayImage 400 _ (record { state = 0; wh = 0; cost = 0 }) (search needs)
+
+mul-d : tie.Need-mul-d Inv-loop μ-loop
+mul-d c = search needs
+
+array-copy-out-d : tie.Need-array-copy-out-d Inv-loop μ-loop
+array-copy-out-d c = search needs
+
+usage-image-requires : tie.Need-usage-image-requires Inv-loop μ-loop
+usage-image-requires c κs = search needs
+
+mul-images : tie.Need-mul-images Inv-loop μ-loop
+mul-images c = search needs
+
+array-set-from-images : tie.Need-array-set-from-images Inv-loop μ-loop
+array-set-from-images c = search needs
+
+add-i : tie.Need-add-i Inv-loop μ-loop
+add-i c = search needs
+
+loop-less : tie.Need-loop-less Inv-loop μ-loop
+loop-less c = search needs
+
+loop-again : tie.Need-loop-again Inv-loop μ-loop
+loop-again c =
+    let l = c .before .before .before .loop in
+    turn dayImage 400 _ (l .images) (l .i) _ _ (c .before .before .loop-test .taken) (c .usage-image .ensures) (l .inv)
+
+returns : tie.Need-returns Inv-loop μ-loop
+returns c = let l = c .before .loop in ends dayImage 400 _ (l .images) (l .i) (c .loop-test .left) (l .inv)
+
+pub day-images-spec : {M : Type 1} → statement M
+day-images-spec =
+    tie.close
+    (tie.spec
+    Inv-loop
+    μ-loop
+    loop-holds
+    mul-d
+    array-copy-out-d
+    usage-image-requires
+    mul-images
+    array-set-from-images
+    add-i
+    loop-less
+    loop-again
+    returns)

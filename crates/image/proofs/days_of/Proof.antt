@@ -1,0 +1,66 @@
+-- `image::days_of` meets its contract. The loop's invariant: the days passed are mapped.
+-- Assumes nothing.
+use Prim.Native.Nat.{_-_}
+use mathlib.Core.Path.{ap}
+use Rattle.account.specs.Record.{blankDay}
+use Rattle.moves.specs.declared.Usage.{Usage}
+use borrow.Author.Needs.{needs}
+use Rattle.image.specs.Image.{dayOf}
+use Rattle.image.proofs.Lists.{Mapped, begins, turn, ends}
+use Rattle.image.proofs.days_of.Statement.{statement}
+use Rattle.image.proofs.days_of.Tie as tie
+
+abbrev Inv-loop : tie.InvT-loop
+Inv-loop l days₀ i₀ days i = Mapped dayOf 400 l days i
+
+abbrev μ-loop : tie.MeasureT-loop
+μ-loop l days₀ i₀ days i = 400 - i
+
+loop-holds : tie.Need-loop-holds Inv-loop μ-loop
+loop-holds c = begins dayOf 400 _ blankDay (search needs)
+
+mul-usage-of : tie.Need-mul-usage-of Inv-loop μ-loop
+mul-usage-of c = search needs
+
+array-copy-out-usage-of : tie.Need-array-copy-out-usage-of Inv-loop μ-loop
+array-copy-out-usage-of c = search needs
+
+usage-of-requires : tie.Need-usage-of-requires Inv-loop μ-loop
+usage-of-requires c κs = search needs
+
+mul-days : tie.Need-mul-days Inv-loop μ-loop
+mul-days c = search needs
+
+array-set-from-days : tie.Need-array-set-from-days Inv-loop μ-loop
+array-set-from-days c = search needs
+
+add-i : tie.Need-add-i Inv-loop μ-loop
+add-i c = search needs
+
+loop-less : tie.Need-loop-less Inv-loop μ-loop
+loop-less c = search needs
+
+loop-again : tie.Need-loop-again Inv-loop μ-loop
+loop-again c =
+    let l = c .before .before .before .loop in
+    turn dayOf 400 _ (l .days) (l .i) _ _ (c .before .before .loop-test .taken) (ap (λ (u : Usage). record { usage = u }) (c .usage-of .ensures)) (l .inv)
+
+returns : tie.Need-returns Inv-loop μ-loop
+returns c = let l = c .before .loop in ends dayOf 400 _ (l .days) (l .i) (c .loop-test .left) (l .inv)
+
+pub days-of-spec : {M : Type 1} → statement M
+days-of-spec =
+    tie.close
+    (tie.spec
+    Inv-loop
+    μ-loop
+    loop-holds
+    mul-usage-of
+    array-copy-out-usage-of
+    usage-of-requires
+    mul-days
+    array-set-from-days
+    add-i
+    loop-less
+    loop-again
+    returns)

@@ -1,0 +1,21 @@
+use mathlib.Core.Path.{ap, _∙_}
+use borrow.Author.Needs.{needs}
+use Rattle.account.specs.declared.Opened.{Opened}
+use Rattle.image.specs.Image.{imageOf, openedOf}
+use Rattle.image.proofs.open.Statement.{statement}
+use Rattle.image.proofs.open.Tie as tie
+
+open-requires : tie.Need-open-requires
+open-requires c κs = search needs
+
+image-of-requires : tie.Need-image-of-requires
+image-of-requires c κs = search needs
+
+returns : tie.Need-returns
+unfolding openedOf
+returns c =
+    let o = c .before .before .«open» .ensures in
+    λ k. record { image = (c .image-of .ensures ∙ ap (λ (x : Opened). imageOf (x .account)) o) k; code = o k .code }
+
+pub open-spec : {M : Type 1} → statement M
+open-spec = tie.close (tie.spec open-requires image-of-requires returns)

@@ -1,0 +1,64 @@
+-- `image::payments_of` meets its contract. The loop's invariant: the payments passed are mapped.
+-- Assumes nothing.
+use Prim.Native.Nat.{_-_}
+use Rattle.account.specs.Record.{noPayment}
+use borrow.Author.Needs.{needs}
+use Rattle.image.specs.Image.{paymentOf}
+use Rattle.image.proofs.Lists.{Mapped, begins, turn, ends}
+use Rattle.image.proofs.payments_of.Statement.{statement}
+use Rattle.image.proofs.payments_of.Tie as tie
+
+abbrev Inv-loop : tie.InvT-loop
+Inv-loop l payments₀ i₀ payments i = Mapped paymentOf 128 l payments i
+
+abbrev μ-loop : tie.MeasureT-loop
+μ-loop l payments₀ i₀ payments i = 128 - i
+
+loop-holds : tie.Need-loop-holds Inv-loop μ-loop
+loop-holds c = begins paymentOf 128 _ noPayment (search needs)
+
+mul-payment-of : tie.Need-mul-payment-of Inv-loop μ-loop
+mul-payment-of c = search needs
+
+array-copy-out-payment-of : tie.Need-array-copy-out-payment-of Inv-loop μ-loop
+array-copy-out-payment-of c = search needs
+
+payment-of-requires : tie.Need-payment-of-requires Inv-loop μ-loop
+payment-of-requires c κs = search needs
+
+mul-payments : tie.Need-mul-payments Inv-loop μ-loop
+mul-payments c = search needs
+
+array-set-from-payments : tie.Need-array-set-from-payments Inv-loop μ-loop
+array-set-from-payments c = search needs
+
+add-i : tie.Need-add-i Inv-loop μ-loop
+add-i c = search needs
+
+loop-less : tie.Need-loop-less Inv-loop μ-loop
+loop-less c = search needs
+
+loop-again : tie.Need-loop-again Inv-loop μ-loop
+loop-again c =
+    let l = c .before .before .before .loop in
+    turn paymentOf 128 _ (l .payments) (l .i) _ _ (c .before .before .loop-test .taken) (c .payment-of .ensures) (l .inv)
+
+returns : tie.Need-returns Inv-loop μ-loop
+returns c = let l = c .before .loop in ends paymentOf 128 _ (l .payments) (l .i) (c .loop-test .left) (l .inv)
+
+pub payments-of-spec : {M : Type 1} → statement M
+payments-of-spec =
+    tie.close
+    (tie.spec
+    Inv-loop
+    μ-loop
+    loop-holds
+    mul-payment-of
+    array-copy-out-payment-of
+    payment-of-requires
+    mul-payments
+    array-set-from-payments
+    add-i
+    loop-less
+    loop-again
+    returns)

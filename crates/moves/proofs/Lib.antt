@@ -1,0 +1,4 @@
+pub mod Arms
+pub mod Cost
+pub mod Early
+pub mod Ways

@@ -1,0 +1,123 @@
+// What one event does to the totals and to the cells of the record that it may change, by its sort, and what it is answered.
+// It uses the calendar, the tariff, the marks, the terms, the limits and the ledger's event. Its promises cite specs/Moves.antt.
+use ledger::Event;
+use terms::Terms;
+ghost use mathlib.Core.Path.{_≡_};
+ghost use Prim.Native.Nat.{_<_};
+ghost use Rattle.moves.specs.Moves.{tallied, refusing, moveOf};
+
+mod charges;
+mod days;
+mod guard;
+mod payments;
+mod service;
+
+// A usage day's state, with its Wh and cost.
+pub enum Usage {
+    Blank,
+    Estimated { wh: u32, cost: u32 },
+    Metered { wh: u32, cost: u32 },
+}
+
+pub struct Day {
+    pub usage: Usage,
+}
+
+pub struct Payment {
+    pub day: u32,
+    pub amount: u32,
+    // what of the amount went to the plan
+    pub part: u32,
+    pub reversed: bool,
+}
+
+// Credits and debits are separate growing totals: the balance B is credit less debit.
+pub struct Totals {
+    pub credit: u64,
+    pub debit: u64,
+    // the unpaid plan R
+    pub plan: u64,
+    // the cost of the standing estimates
+    pub standing: u64,
+    // payments and events accepted
+    pub count: u32,
+    pub events: u32,
+    // the last accepted event's day
+    pub last: u32,
+    // service
+    pub on: bool,
+}
+
+// The answer, the totals, and the one cell of each array that the event may change; before the event, as they stand.
+pub struct Move {
+    pub code: u8,
+    pub value: u64,
+    pub totals: Totals,
+    // payment `number`
+    pub number: u32,
+    pub payment: Payment,
+    // the event's usage day
+    pub day: Day,
+    // the charges summed at `place`
+    pub place: u32,
+    pub sum: u64,
+    // the warning byte of the event's day
+    pub warned: u8,
+    // the mark set from day `from` to day `to`; none where `to` is before `from`
+    pub kind: u32,
+    pub from: u32,
+    pub to: u32,
+}
+
+fn refuse(m: Move, k: u8) -> Move
+    ensures { λ r. ⌜ r ≡ refusing m k ⌝ }
+{
+    let mut r = m;
+    r.code = k;
+    r.value = 0;
+    r
+}
+
+// The totals with one more event, of that day.
+fn tally(s: Totals, day: u32) -> Totals
+    requires { ⌜ s .events < 4096 ⌝ }
+    ensures { λ r. ⌜ r ≡ tallied s day ⌝ }
+{
+    let mut n = s;
+    n.events = s.events + 1;
+    n.last = day;
+    n
+}
+
+// The move of an event, of what stands before it. A refusal moves nothing.
+pub fn move_of<'a>(
+    t: Terms,
+    m: Move,
+    charges: &'a [u64; 75],
+    marks: &'a [u8; 400],
+    warned: &'a [u8; 400],
+    e: Event,
+) -> Move
+    ensures { λ r. ⌜ r ≡ moveOf t m (now (charges .entry)) (now (marks .entry)) (now (warned .entry)) e ⌝ }
+{
+    let s = m.totals;
+    let early = guard::early(t, s, e);
+    if early != 0 {
+        return refuse(m, early);
+    }
+    let sort = e.sort;
+    match sort {
+        1 => payments::pay(t, m, e),
+        2 => payments::reverse(t, m, e),
+        3 => payments::credit(t, m, e),
+        4 => charges::charge(t, m, charges, e),
+        5 => days::estimate(t, m, e),
+        6 => days::read(t, m, e),
+        7 => service::warn(t, m, e),
+        8 => service::mark(t, m, e),
+        9 => service::plan(t, m, marks, e),
+        10 => service::disconnect(t, m, marks, warned, e),
+        11 => service::connect(t, m, e),
+        0 | 12..=4294967295 => refuse(m, 3),
+    }
+}
