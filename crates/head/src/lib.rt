@@ -10,6 +10,7 @@ use terms::Terms;
 ghost use mathlib.Core.Path.{_≡_};
 ghost use Rattle.posting.specs.Posting.{rowOf};
 ghost use Rattle.transcript.specs.Transcript.{Written};
+ghost use Rattle.statement.specs.Statement as statement;
 ghost use Rattle.image.specs.Image.{accountOf, openedOf, postedOf, readingsOf, summaryIn};
 ghost use Rattle.head.specs.Interface.{IsOpened, IsPosted, IsRow};
 
@@ -19,6 +20,14 @@ pub extern "C" fn prepay_transcript(text: &[u8], out: &mut [u8]) -> usize
     ensures { λ r. ⌜ Written (now (text .entry)) (now (out .entry)) (now (out .exit)) r ⌝ }
 {
     transcript::transcript(text, out)
+}
+
+// The month figures of a text.
+#[no_mangle]
+pub extern "C" fn prepay_statement(text: &[u8], out: &mut [u8]) -> usize
+    ensures { λ r. ⌜ statement.Written (now (text .entry)) (now (out .entry)) (now (out .exit)) r ⌝ }
+{
+    statement::statement(text, out)
 }
 
 // A fresh account. Where the terms are outside their limits the answer is 1 and every event gets 1.

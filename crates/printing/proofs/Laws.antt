@@ -1,12 +1,12 @@
 -- Bytes put into a buffer: what stays, and putting one thing after the other. Assumes nothing.
-use mathlib.Core.Path.{_≡_, refl, sym, ap, _∙_}
-use mathlib.Core.Bool.{Bool, true, false, cond}
-use mathlib.Core.List.{List, [], _∷_, _++_, append-assoc, append-nil}
-use Prim.Native.Nat.{ℕ, zero, suc, _+_, _-_, _≤_, _<_}
-use native.Mathlib.Nat.{add-zero, add-assoc}
+use mathlib.Core.Path.{_≡_, sym, ap, _∙_}
+use mathlib.Core.Bool.{true, false}
+use mathlib.Core.List.{List, [], _∷_, _++_, append-assoc}
+use Prim.Native.Nat.{ℕ, suc, _+_, _-_, _≤_, _<_}
+use native.Mathlib.Nat.{add-zero}
 use native.Mathlib.Numerals.{add-one}
 use native.Mathlib.Omega.{arith}
-use lib.ListN.{length, take, drop, getD, set, length-append, length-drop, length-set, take-append-drop}
+use lib.ListN.{length, take, drop, set, length-append, length-drop, length-set, take-append-drop}
 use lib.Seq.{paste, take-length, length-take-le, take-at, drop-at, drop-drop, drop-cons, set-split, drop-set-lt, take-set-le, getD-set-same}
 use lib.Dec.{leb}
 use borrow.Author.Tests.{le-leb, leb-true, leb-false, lt-leb}
@@ -104,20 +104,6 @@ module _ (b : List ℕ) (at : ℕ) (x : List ℕ) where
   pub puts-nothing : leb (at + length x) (length b) ≡ false → Puts b at x b at
   unfolding put past fits
   puts-nothing f = record { buffer = simp f; next = simp f }
-
-  pub length-put : length (put b at x) ≡ length b
-  unfolding put fits
-  length-put = decide (leb (at + length x) (length b))
-      (λ t. simp t (length-over b at x (leb-true (at + length x) (length b) t)))
-      (λ f. simp f)
-
--- one thing after the other, where both fit
-pub put-then : (b : List ℕ) (at : ℕ) (x y : List ℕ) → at + length x + length y ≤ length b → put (put b at x) (past b at x) y ≡ put b at (x ++ y)
-put-then b at x y h =
-    let both : at + length (x ++ y) ≤ length b = rw (length-append x y) (omega arith) in
-    let first : at + length x ≤ length b = omega arith in
-    rw (put-fits b at x first, past-fits b at x first, put-fits b at (x ++ y) both)
-    (put-fits (over b at x) (at + length x) y (rw (length-over b at x first) h) ∙ over-over b at x y h)
 
 -- the first byte set, and then the others put
 pub puts-first : (b : List ℕ) (at : ℕ) (x : List ℕ) (g : ℕ) (after : List ℕ) (r : ℕ) → at + length (g ∷ x) ≤ length b → Puts (set b at g) (at + 1) x after r → Puts b at (g ∷ x) after r

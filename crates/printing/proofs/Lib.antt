@@ -1,3 +1,4 @@
 pub mod Digits
 pub mod Laws
-mod Signs
+pub mod Placed
+pub mod Signs

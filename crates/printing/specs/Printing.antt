@@ -1,7 +1,7 @@
 -- Numbers and words as bytes, and where they are put in a lent buffer.
-use Prim.Native.Nat.{ℕ, zero, suc, _+_, _/_, _%_}
+use Prim.Native.Nat.{ℕ, zero, suc, _+_, _/_, _%_, _≤_}
 use mathlib.Core.Path.{_≡_}
-use mathlib.Core.Bool.{Bool, true, false, cond}
+use mathlib.Core.Bool.{Bool, cond}
 use mathlib.Core.List.{List, [], _∷_, _++_}
 use lib.ListN.{length, take, drop}
 use lib.Dec.{ltb, leb}
@@ -38,3 +38,9 @@ past buffer at bytes = cond (fits buffer at bytes) (at + length bytes) at
 pub record Puts (before : List ℕ) (at : ℕ) (bytes after : List ℕ) (r : ℕ) : Type 0 where
   pub buffer : after ≡ put before at bytes
   pub next : r ≡ past before at bytes
+
+-- The bytes stand in the buffer from the place on, with room for them, and r is the place after them.
+pub record Wrote (before : List ℕ) (at : ℕ) (bytes after : List ℕ) (r : ℕ) : Type 0 where
+  pub buffer : after ≡ over before at bytes
+  pub next : r ≡ at + length bytes
+  pub room : at + length bytes ≤ length before

@@ -1,5 +1,6 @@
 // Numbers and words put as bytes into a lent buffer. It uses nothing else. Its promises cite specs/Printing.antt.
 ghost use mathlib.Core.Path.{_≡_};
+ghost use mathlib.Core.List.{_++_};
 ghost use Prim.Native.Nat.{_+_, _≤_};
 ghost use lib.Dec.{leb};
 ghost use lib.ListN.{length};
@@ -89,6 +90,17 @@ fn magnitude(z: i64) -> u64
     z as u64
 }
 
+// How many bytes z has: its digits, and the minus below zero.
+fn width(z: i64) -> usize
+    ensures { λ r. ⌜ r ≡ length (signed z) ⌝ }
+{
+    let count = places(magnitude(z));
+    if 0 <= z {
+        return count;
+    }
+    count + 1
+}
+
 // The number in base ten, with a leading minus below zero.
 pub fn put_signed(out: &mut [u8], at: usize, z: i64) -> usize
     ensures { λ r. ⌜ Puts (now (out .entry)) at (signed z) (now (out .exit)) r ⌝ }
@@ -97,9 +109,31 @@ pub fn put_signed(out: &mut [u8], at: usize, z: i64) -> usize
     if z >= 0 {
         return put_number(out, at, n);
     }
-    if !room(out.len(), at, places(n) + 1) {
+    if !room(out.len(), at, width(z)) {
         return at;
     }
     out[at] = b'-';
     put_number(out, at + 1, n)
+}
+
+// A word and the number after it, as one: nothing is put where both do not fit.
+pub fn put_field(out: &mut [u8], at: usize, word: &[u8], n: u64) -> usize
+    ensures { λ r. ⌜ Puts (now (out .entry)) at (now (word .entry) ++ decimal n) (now (out .exit)) r ⌝ }
+{
+    if !room(out.len(), at, word.len() + places(n)) {
+        return at;
+    }
+    let next = put_bytes(out, at, word);
+    put_number(out, next, n)
+}
+
+// A word and the sum after it, in the same way.
+pub fn put_sum(out: &mut [u8], at: usize, word: &[u8], z: i64) -> usize
+    ensures { λ r. ⌜ Puts (now (out .entry)) at (now (word .entry) ++ signed z) (now (out .exit)) r ⌝ }
+{
+    if !room(out.len(), at, word.len() + width(z)) {
+        return at;
+    }
+    let next = put_bytes(out, at, word);
+    put_signed(out, next, z)
 }

@@ -1,7 +1,7 @@
 -- The lines by the head's step and the reading calls are the ledger's, for an account that stands for the ledger. Assumes nothing.
-use Prim.Native.Nat.{ℕ, zero, suc, _+_, _-_, _<_}
+use Prim.Native.Nat.{ℕ, zero, suc, _+_, _-_}
 use mathlib.Core.Path.{_≡_, refl, sym, ap, ap₂, _∙_}
-use mathlib.Core.Bool.{Bool, true, false, cond}
+use mathlib.Core.Bool.{true, false}
 use mathlib.Core.List.{List, [], _∷_, _++_}
 use native.Mathlib.Omega.{arith}
 use lib.ListN.{length, drop, length-drop}
@@ -10,7 +10,7 @@ use Rattle.terms.specs.declared.Terms.{Terms}
 use Rattle.ledger.specs.declared.Event.{Event}
 use Rattle.ledger.specs.Rules.{Ledger}
 use Rattle.ledger.specs.Ledger.{Outcome, opening, ledgerStep}
-use Rattle.ledger.specs.Sums.{settled, standing}
+use Rattle.ledger.specs.Sums.{standing}
 use Rattle.ledger.proofs.Cases.{decide}
 use Rattle.account.specs.Record.{fresh}
 use Rattle.account.specs.Head.{stepOf, openOf}
@@ -18,11 +18,11 @@ use Rattle.account.specs.declared.Opened.{Opened}
 use Rattle.account.specs.declared.Account.{Account}
 use Rattle.refinement.specs.Agree.{Stands, Refinement}
 use Rattle.refinement.proofs.Refines.{refinement-holds}
-use Rattle.readings.specs.Readings.{balanceOf, settledOf}
 use Rattle.readings.proofs.After.{balance-is, settled-reads}
 use Rattle.text.specs.Text.{Read, got, broken, readEvent}
-use Rattle.transcript.specs.Transcript.{line, lastLine, closing, eventLines, termsLine, byTerms}
-use Rattle.transcript.specs.Work.{Wrote, headLine, headClosing, headLines}
+use Rattle.transcript.specs.Transcript.{line, closing, eventLines, termsLine, byTerms}
+use Rattle.printing.specs.Printing.{Wrote}
+use Rattle.transcript.specs.Work.{headLine, headClosing, headLines}
 use Rattle.transcript.proofs.Turn.{lines-got, lines-broken}
 
 -- ---- one line
@@ -76,11 +76,11 @@ lines-are t v (suc k) a l n (b ∷ s) h = by-read (readEvent (b ∷ s))
 
 -- ---- from the terms
 
-wrong : (t : Terms) → (termsCode t ≡ 0 → ⊥) → (validTerms t ≡ false) × (termsCode t ≡ 1)
+pub wrong : (t : Terms) → (termsCode t ≡ 0 → ⊥) → (validTerms t ≡ false) × (termsCode t ≡ 1)
 unfolding termsCode
 wrong t ne = decide (validTerms t) (λ y. absurd (ne (simp y))) (λ f. (f, simp f))
 
-right : (t : Terms) → termsCode t ≡ 0 → validTerms t ≡ true
+pub right : (t : Terms) → termsCode t ≡ 0 → validTerms t ≡ true
 unfolding termsCode
 right t e = decide (validTerms t) (λ y. y) (λ f. absurd (let one : _≡_ {A = ℕ} 1 0 = simp f at e in omega arith))
 

@@ -1,4 +1,3 @@
-mod Placed
 mod Turn
 pub mod Ledgers
 pub mod Whole

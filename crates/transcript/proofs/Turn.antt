@@ -1,16 +1,17 @@
 -- The loop over the events: what it keeps, and one turn. Assumes nothing.
-use Prim.Native.Nat.{ℕ, zero, suc, _+_, _*_, _-_, _≤_, _<_}
-use mathlib.Core.Path.{_≡_, refl, sym, ap, _∙_}
+use Prim.Native.Nat.{ℕ, suc, _+_, _*_, _-_, _≤_, _<_}
+use mathlib.Core.Path.{_≡_, refl, _∙_}
 use mathlib.Core.List.{List, [], _∷_, _++_}
 use native.Mathlib.Omega.{arith}
-use lib.ListN.{length, drop, length-drop, drop-of-length-le}
+use lib.ListN.{length, drop, length-drop}
 use Rattle.ledger.specs.declared.Event.{Event}
 use Rattle.account.specs.Head.{stepOf}
 use Rattle.account.specs.declared.Account.{Account}
 use Rattle.account.specs.declared.Posted.{Posted}
 use Rattle.text.specs.Text.{got, broken, readEvent}
-use Rattle.transcript.specs.Work.{Wrote, headLine, headClosing, headLines}
-use Rattle.transcript.proofs.Placed.{kept, wrote-then}
+use Rattle.transcript.specs.Work.{headLine, headClosing, headLines}
+use Rattle.printing.specs.Printing.{Wrote}
+use Rattle.printing.proofs.Placed.{kept, wrote-then}
 
 -- ---- the lines of what is left, by what stands there
 

@@ -1,31 +1,27 @@
 -- What stands in the buffer from its start is what the call leaves. Assumes nothing.
-use Prim.Native.Nat.{ℕ, zero, _+_, _≤_, _<_}
-use mathlib.Core.Path.{_≡_, refl, sym, ap, _∙_}
-use mathlib.Core.List.{List, [], _∷_, _++_}
+use Prim.Native.Nat.{ℕ, _+_, _≤_, _<_}
+use mathlib.Core.Path.{_≡_, sym, ap, _∙_}
+use mathlib.Core.List.{List, _++_}
 use native.Mathlib.Nat.{zero-add}
 use native.Mathlib.Omega.{arith}
 use lib.ListN.{length, drop, length-append}
 use lib.Dec.{ltb}
 use borrow.Author.Tests.{lt-ltb, le-ltb}
-use Rattle.printing.specs.Printing.{over}
-use Rattle.text.specs.Text.{Read, got, broken, readTerms}
+use Rattle.printing.specs.Printing.{Wrote}
+use Rattle.printing.proofs.Placed.{from-start}
+use Rattle.text.specs.Text.{Read, readTerms}
 use Rattle.terms.specs.declared.Terms.{Terms}
 use Rattle.ledger.proofs.Cases.{decide}
 use Rattle.transcript.specs.Transcript.{transcript, termsLine, byTerms, Written}
-use Rattle.transcript.specs.Work.{Wrote}
 
 pub nothing : (s before : List ℕ) → length before < 655360 → Written s before before 0
 nothing s before h = record { answer = simp (lt-ltb (length before) 655360 h); bytes = simp (lt-ltb (length before) 655360 h) }
 
 module _ (s before x after : List ℕ) (r : ℕ) (h : 655360 ≤ length before) (w : Wrote before 0 x after r) where
-  start : over before 0 x ≡ x ++ drop (length x) before
-  unfolding over
-  start = rw (zero-add (length x))
-
   by-lines : transcript s ≡ x → Written s before after r
   by-lines e = record {
     answer = simp (le-ltb (length before) 655360 h) (w .next ∙ zero-add (length x) ∙ ap length (sym e));
-    bytes = simp (le-ltb (length before) 655360 h) (w .buffer ∙ start ∙ ap (λ (y : List ℕ). y ++ drop (length y) before) (sym e));
+    bytes = simp (le-ltb (length before) 655360 h) (w .buffer ∙ from-start before x ∙ ap (λ (y : List ℕ). y ++ drop (length y) before) (sym e));
   }
 
   pub too-long : 65536 < length s → x ≡ termsLine 15 → Written s before after r

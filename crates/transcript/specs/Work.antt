@@ -1,9 +1,6 @@
--- The working definitions of the code: bytes that fit, and the transcript's lines by the head's step and the reading calls.
-use Prim.Native.Nat.{ℕ, zero, suc, _+_, _≤_}
-use mathlib.Core.Path.{_≡_}
+-- The working definitions of the code: the transcript's lines by the head's step and the reading calls.
+use Prim.Native.Nat.{ℕ, zero, suc, _+_}
 use mathlib.Core.List.{List, [], _∷_, _++_}
-use lib.ListN.{length}
-use lib.IntN.{ℤ}
 use Rattle.ledger.specs.declared.Event.{Event}
 use Rattle.account.specs.Head.{stepOf}
 use Rattle.moves.specs.declared.Totals.{Totals}
@@ -11,14 +8,7 @@ use Rattle.account.specs.declared.Account.{Account}
 use Rattle.account.specs.declared.Posted.{Posted}
 use Rattle.readings.specs.Readings.{balanceOf, settledOf}
 use Rattle.text.specs.Text.{Read, got, broken, readEvent}
-use Rattle.printing.specs.Printing.{over}
 use Rattle.transcript.specs.Transcript.{line, lastLine}
-
--- The bytes stand in the buffer from the place on, with room for them, and r is the place after them.
-pub record Wrote (before : List ℕ) (at : ℕ) (bytes after : List ℕ) (r : ℕ) : Type 0 where
-  pub buffer : after ≡ over before at bytes
-  pub next : r ≡ at + length bytes
-  pub room : at + length bytes ≤ length before
 
 -- the line of an event, by the totals after it; the last line
 abbrev pub headLine : ℕ → ℕ → ℕ → Totals → List ℕ

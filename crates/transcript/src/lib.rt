@@ -4,43 +4,21 @@
 use account::Account;
 use moves::Totals;
 use printing::put_bytes;
-use printing::put_number;
-use printing::put_signed;
+use printing::put_field;
+use printing::put_sum;
 use terms::Terms;
 use text::EventRead;
 use text::TermsRead;
-ghost use mathlib.Core.Path.{_≡_};
-ghost use mathlib.Core.List.{_++_};
 ghost use Prim.Native.Nat.{suc, _+_, _-_, _≤_};
 ghost use lib.ListN.{length, drop};
 ghost use Rattle.text.specs.Text.{got};
-ghost use Rattle.printing.specs.Printing.{decimal, signed};
+ghost use Rattle.printing.specs.Printing.{Wrote};
 ghost use Rattle.transcript.specs.Transcript.{line, lastLine, termsLine, byTerms, Written};
-ghost use Rattle.transcript.specs.Work.{Wrote, headLine, headClosing, headLines};
+ghost use Rattle.transcript.specs.Work.{headLine, headClosing, headLines};
 
 // ---- one line
 
-// A word and the number after it.
-fn put_field(out: &mut [u8], at: usize, word: &[u8], n: u64) -> usize
-    requires { ⌜ at + length (now word) + 20 ≤ length (now out) ⌝ }
-    ensures { λ r. ⌜ Wrote (now (out .entry)) at (now (word .entry) ++ decimal n) (now (out .exit)) r ⌝ }
-    ensures { λ r. ⌜ r ≤ at + length (now (word .entry)) + 20 ⌝ }
-{
-    let next = put_bytes(out, at, word);
-    put_number(out, next, n)
-}
-
-// A word and the sum after it.
-fn put_sum(out: &mut [u8], at: usize, word: &[u8], z: i64) -> usize
-    requires { ⌜ at + length (now word) + 20 ≤ length (now out) ⌝ }
-    ensures { λ r. ⌜ Wrote (now (out .entry)) at (now (word .entry) ++ signed z) (now (out .exit)) r ⌝ }
-    ensures { λ r. ⌜ r ≤ at + length (now (word .entry)) + 20 ⌝ }
-{
-    let next = put_bytes(out, at, word);
-    put_signed(out, next, z)
-}
-
-// A line of 131 bytes at most, 114 with a code of three digits at most.
+// A line of 114 bytes at most.
 fn put_line(
     out: &mut [u8],
     at: usize,
@@ -50,7 +28,7 @@ fn put_line(
     balance: i64,
     plan: u64,
 ) -> usize
-    requires { ⌜ at + 131 ≤ length (now out) ⌝ }
+    requires { ⌜ at + 114 ≤ length (now out) ⌝ }
     ensures { λ r. ⌜ Wrote (now (out .entry)) at (line n code value balance plan) (now (out .exit)) r ⌝ }
     ensures { λ r. ⌜ r ≤ at + 114 ⌝ }
 {
@@ -73,7 +51,7 @@ fn put_last(out: &mut [u8], at: usize, sum: i64, cost: u64) -> usize
 
 // The line of an event, by the totals after it.
 fn put_event(out: &mut [u8], at: usize, n: u64, code: u8, value: u64, s: Totals) -> usize
-    requires { ⌜ at + 131 ≤ length (now out) ⌝ }
+    requires { ⌜ at + 114 ≤ length (now out) ⌝ }
     ensures { λ r. ⌜ Wrote (now (out .entry)) at (headLine n code value s) (now (out .exit)) r ⌝ }
     ensures { λ r. ⌜ r ≤ at + 114 ⌝ }
 {

@@ -1,16 +1,14 @@
 -- `printing::put_signed` meets its contract. Assumes nothing.
 use Prim.Native.Nat.{ℕ, _+_, _≤_}
 use mathlib.Core.Path.{_≡_, sym, ap, _∙_}
-use mathlib.Core.Bool.{true}
 use mathlib.Core.List.{_∷_}
 use native.Mathlib.Omega.{arith}
 use lib.Dec.{leb}
-use lib.IntN.{natAbs}
-use lib.ListN.{length, set, length-set}
+use lib.IntN.{ℤ, natAbs}
+use lib.ListN.{length, length-set}
 use denote.Ref.{now}
-use borrow.Author.Tests.{leb-true, le-leb, not-true, not-false}
+use borrow.Author.Tests.{leb-true, not-true, not-false}
 use Rattle.printing.specs.Printing.{decimal, signed}
-use Rattle.printing.proofs.Digits.{length-decimal}
 use Rattle.printing.proofs.Laws.{puts-nothing, puts-first}
 use Rattle.printing.proofs.Signs.{back, signed-above, signed-below}
 use borrow.Author.Needs.{needs}
@@ -29,9 +27,9 @@ spelt c =
 
 tested : (c : tie.After-room) → let a = c .before .before .before .before .before .args in c .room .result ≡ leb (a .at + length (signed (a .z))) (length (now (a .out)))
 tested c =
-    let a = c .before .before .before .before .before .args in
-    let e : a .at + (c .before .places .result + 1) ≡ a .at + length (signed (a .z)) = rw (spelt c) (omega (arith, c .before .places .ensures)) in
-    c .room .ensures ∙ ap (λ (k : ℕ). leb k (length (now (a .out)))) e
+    let s = c .before .before .before .before .before in
+    c .room .ensures
+    ∙ ap (λ (k : ℕ). leb (s .args .at + k) (length (now (s .args .out)))) (c .before .width .ensures ∙ ap (λ (z : ℤ). length (signed z)) (back (s .args .z) (s .fits .z)))
 
 fit : (c : tie.Else2) → let a = c .before .before .before .before .before .before .args in a .at + length (signed (a .z)) ≤ length (now (a .out))
 fit c =
@@ -56,11 +54,8 @@ returns c =
     let s = m .before .before in
     rw (signed-above (s .args .z) (s .fits .z) (c .before .before .before .before .if1 .taken), sym (size m)) (c .before .before .put-number .ensures)
 
-places-requires : tie.Need-places-requires
-places-requires c κs = search needs
-
-add-room : tie.Need-add-room
-add-room c = omega (arith, c .places .ensures, length-decimal (c .before .before .magnitude .result) (c .before .before .magnitude .ok))
+width-requires : tie.Need-width-requires
+width-requires c κs = search needs
 
 room-requires : tie.Need-room-requires
 room-requires c κs = search needs
@@ -91,8 +86,7 @@ put-signed-spec =
     put-number-requires
     same-length
     returns
-    places-requires
-    add-room
+    width-requires
     room-requires
     returns-2
     slice-write-out

@@ -1,8 +1,7 @@
--- `summary::main` meets its contract: what the lines' call says it wrote lies within the buffer.
--- Assumes nothing.
+-- `summary::main` meets its contract: what the statement's call says it wrote lies within the buffer. Assumes nothing.
 use mathlib.Core.Path.{sym}
 use lib.Seq.{length-take-le}
-use Rattle.summary.proofs.Whole.{within}
+use Rattle.statement.proofs.Whole.{within}
 use borrow.Author.Needs.{needs}
 use Rattle.summary.proofs.main.Statement.{statement}
 use Rattle.summary.proofs.main.Tie as tie
@@ -16,20 +15,20 @@ read-full-requires c κs = search needs
 array-share-prefix-text : tie.Need-array-share-prefix-text
 array-share-prefix-text c = search needs
 
-slice-aggregate-put-text : tie.Need-slice-aggregate-put-text
-slice-aggregate-put-text c = search needs
+slice-aggregate-statement : tie.Need-slice-aggregate-statement
+slice-aggregate-statement c = search needs
 
-slice-aggregate-put-text-2 : tie.Need-slice-aggregate-put-text-2
-slice-aggregate-put-text-2 c = search needs
+slice-aggregate-statement-2 : tie.Need-slice-aggregate-statement-2
+slice-aggregate-statement-2 c = search needs
 
-put-text-requires : tie.Need-put-text-requires
-put-text-requires c κs = search needs
+statement-requires : tie.Need-statement-requires
+statement-requires c κs = search needs
 
 array-share-prefix-out : tie.Need-array-share-prefix-out
-array-share-prefix-out c = search needs
+array-share-prefix-out c = within _ _ _ _ (c .before .statement .ensures)
 
 slice-aggregate-write-all : tie.Need-slice-aggregate-write-all
-slice-aggregate-write-all c = sym (length-take-le _ _ (within _ _ _ _ (c .before .before .put-text .ensures)))
+slice-aggregate-write-all c = sym (length-take-le _ _ (within _ _ _ _ (c .before .before .statement .ensures)))
 
 write-all-requires : tie.Need-write-all-requires
 write-all-requires c κs = search needs
@@ -44,9 +43,9 @@ main-spec =
     slice-aggregate-read-full
     read-full-requires
     array-share-prefix-text
-    slice-aggregate-put-text
-    slice-aggregate-put-text-2
-    put-text-requires
+    slice-aggregate-statement
+    slice-aggregate-statement-2
+    statement-requires
     array-share-prefix-out
     slice-aggregate-write-all
     write-all-requires

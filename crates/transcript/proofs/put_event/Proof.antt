@@ -1,7 +1,6 @@
 -- `transcript::put_event` meets its contract. Assumes nothing.
-use mathlib.Core.Path.{_≡_, sym, _∙_}
-use lib.IntN.{ℤ}
-use Rattle.transcript.proofs.Placed.{back}
+use mathlib.Core.Path.{sym}
+use Rattle.printing.proofs.Signs.{back}
 use borrow.Author.Needs.{needs}
 use Rattle.transcript.proofs.put_event.Statement.{statement}
 use Rattle.transcript.proofs.put_event.Tie as tie

@@ -1,13 +1,10 @@
 -- `transcript::put_line` meets its contract. Assumes nothing.
-use native.Mathlib.Omega.{arith}
-use Prim.Native.Nat.{_+_, _≤_}
-use lib.ListN.{length}
 use mathlib.Core.List.{_++_}
-use Rattle.printing.specs.Printing.{decimal, signed}
-use Rattle.transcript.specs.Work.{Wrote}
-use Rattle.printing.proofs.Digits.{length-byte}
+use Rattle.printing.specs.Printing.{decimal, signed, Puts}
+use Rattle.printing.proofs.Digits.{length-decimal, length-byte, length-signed}
 use Rattle.transcript.specs.Transcript.{line, wN, wCode, wValue, wBalance, wPlan}
-use Rattle.transcript.proofs.Placed.{back, placed, field-then}
+use Rattle.printing.proofs.Signs.{back}
+use Rattle.printing.proofs.Placed.{word-last, field-then}
 use borrow.Author.Needs.{needs}
 use Rattle.transcript.proofs.put_line.Statement.{statement}
 use Rattle.transcript.proofs.put_line.Tie as tie
@@ -22,25 +19,25 @@ slice-aggregate-put-field-2 : tie.Need-slice-aggregate-put-field-2
 slice-aggregate-put-field-2 c = search needs
 
 put-field-requires-2 : tie.Need-put-field-requires-2
-put-field-requires-2 c κs = omega arith
+put-field-requires-2 c κs = search needs
 
 slice-aggregate-put-field-3 : tie.Need-slice-aggregate-put-field-3
 slice-aggregate-put-field-3 c = search needs
 
 put-field-requires-3 : tie.Need-put-field-requires-3
-put-field-requires-3 c κs = omega arith
+put-field-requires-3 c κs = search needs
 
 slice-aggregate-put-sum : tie.Need-slice-aggregate-put-sum
 slice-aggregate-put-sum c = search needs
 
 put-sum-requires : tie.Need-put-sum-requires
-put-sum-requires c κs = omega arith
+put-sum-requires c κs = search needs
 
 slice-aggregate-put-field-4 : tie.Need-slice-aggregate-put-field-4
 slice-aggregate-put-field-4 c = search needs
 
 put-field-requires-4 : tie.Need-put-field-requires-4
-put-field-requires-4 c κs = omega arith
+put-field-requires-4 c κs = search needs
 
 slice-aggregate-put-bytes : tie.Need-slice-aggregate-put-bytes
 slice-aggregate-put-bytes c = search needs
@@ -60,15 +57,14 @@ returns c =
     let c2 = c3 .before .before .before .before .before in
     let c1 = c2 .before .before .before .before .before in
     let s = c1 .before .before .before .before in
-    let feed = placed (c .before .before .put-bytes .ensures) (omega arith) in
     let a = s .args in
-    let sum : Wrote _ _ (wBalance ++ signed (a .balance)) _ _ = rw (back (a .balance) (s .fits .balance)) at (c4 .put-sum .ensures .0) in (
-      field-then wN (decimal (a .n)) (c1 .put-field .ensures .0)
-          (field-then wCode (decimal (a .code)) (c2 .put-field2 .ensures .0)
-          (field-then wValue (decimal (a .value)) (c3 .put-field3 .ensures .0)
-          (field-then wBalance (signed (a .balance)) sum (field-then wPlan (decimal (a .plan)) (c5 .put-field4 .ensures .0) feed)))),
-      omega (arith, feed .next, c5 .put-field4 .ensures .1, c4 .put-sum .ensures .1, c3 .put-field3 .ensures .1, c2 .put-field2 .ensures .0 .next, length-byte (a .code) (s .fits .code .fits), c1 .put-field .ensures .1),
-    )
+    let sum : Puts _ _ (wBalance ++ signed (a .balance)) _ _ = rw (back (a .balance) (s .fits .balance)) at (c4 .put-sum .ensures) in
+    field-then wN (decimal (a .n)) 20 (length-decimal (a .n) (s .fits .n .fits)) (c1 .put-field .ensures) 92 (s .pre) (λ h1.
+    field-then wCode (decimal (a .code)) 3 (length-byte (a .code) (s .fits .code .fits)) (c2 .put-field2 .ensures) 83 h1 (λ h2.
+    field-then wValue (decimal (a .value)) 20 (length-decimal (a .value) (s .fits .value .fits)) (c3 .put-field3 .ensures) 56 h2 (λ h3.
+    field-then wBalance (signed (a .balance)) 20 (length-signed (a .balance) (s .fits .balance .sfits)) sum 27 h3 (λ h4.
+    field-then wPlan (decimal (a .plan)) 20 (length-decimal (a .plan) (s .fits .plan .fits)) (c5 .put-field4 .ensures) 1 h4 (λ h5.
+    word-last (c .before .before .put-bytes .ensures) h5)))))
 
 pub put-line-spec : {M : Type 1} → statement M
 put-line-spec =

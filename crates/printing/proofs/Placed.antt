@@ -1,0 +1,60 @@
+-- Bytes that fit, one thing after the other. Assumes nothing.
+use mathlib.Core.Path.{_≡_, sym, ap, _∙_}
+use mathlib.Core.List.{List, _++_, append-assoc}
+use Prim.Native.Nat.{ℕ, _+_, _≤_}
+use native.Mathlib.Nat.{zero-add}
+use native.Mathlib.Omega.{arith}
+use lib.ListN.{length, drop, length-append}
+use borrow.Author.Tests.{le-leb}
+use Rattle.printing.specs.Printing.{over, Puts, Wrote}
+use Rattle.printing.proofs.Laws.{length-over, over-over, put-fits, past-fits, puts-all}
+
+module _ {b : List ℕ} {at : ℕ} {x after : List ℕ} {r : ℕ} where
+  pub wrote : Puts b at x after r → at + length x ≤ length b → Wrote b at x after r
+  wrote p h = record { buffer = p .buffer ∙ put-fits b at x h; next = p .next ∙ past-fits b at x h; room = h }
+
+  pub kept : Wrote b at x after r → length after ≡ length b
+  kept w = ap length (w .buffer) ∙ length-over b at x (w .room)
+
+  pub wrote-then : {y last : List ℕ} {q : ℕ} → Wrote b at x after r → Wrote after r y last q → Wrote b at (x ++ y) last q
+  wrote-then {y} {last} {q} w v =
+      let fits : at + length x + length y ≤ length b = omega (arith, w .next, v .room, kept w) in
+      record {
+        buffer = v .buffer ∙ ap (λ (l : List ℕ). over l r y) (w .buffer) ∙ ap (λ (k : ℕ). over (over b at x) k y) (w .next) ∙ over-over b at x y fits;
+        next = simp length-append (omega (arith, w .next, v .next));
+        room = simp length-append (omega arith);
+      }
+
+-- one call after the other, where both have room
+pub puts-then : {b : List ℕ} {at : ℕ} (x y : List ℕ) {after : List ℕ} {r : ℕ} {last : List ℕ} {q : ℕ}
+    → Puts b at x after r → Puts after r y last q → at + length (x ++ y) ≤ length b → Puts b at (x ++ y) last q
+puts-then {b} {at} x y {after} {r} {last} {q} p v h =
+    let fits : at + length x + length y ≤ length b = omega (arith, length-append x y) in
+    let first : Wrote b at x after r = wrote p (omega arith) in
+    let whole : Wrote b at (x ++ y) last q = wrote-then first (wrote v (omega (arith, kept first, first .next))) in
+    puts-all b at (x ++ y) last q (le-leb (at + length (x ++ y)) (length b) h) (whole .buffer) (whole .next)
+
+-- ---- the last word, the last field, and a field and what follows it: whole, and how far they reach, with `most` digits at most and `rest`
+-- bytes at most after them
+
+pub word-last : {b : List ℕ} {at : ℕ} {x after : List ℕ} {r : ℕ} → Puts b at x after r → at + length x ≤ length b → Wrote b at x after r × (r ≤ at + length x)
+word-last {b} {at} {x} {after} {r} p h = let w : Wrote b at x after r = wrote p h in (w, omega (arith, w .next))
+
+module _ {b : List ℕ} {at : ℕ} (word digits : List ℕ) (most : ℕ) {after : List ℕ} {r : ℕ} (few : length digits ≤ most) (p : Puts b at (word ++ digits) after r) where
+  pub field-last : at + (length word + most) ≤ length b → Wrote b at (word ++ digits) after r × (r ≤ at + (length word + most))
+  field-last h =
+      let w : Wrote b at (word ++ digits) after r = wrote p (simp length-append (omega arith)) in
+      (w, omega (arith, w .next, length-append word digits))
+
+  pub field-then : (rest : ℕ) {y last : List ℕ} {q : ℕ} → at + (length word + most + rest) ≤ length b
+      → (r + rest ≤ length after → Wrote after r y last q × (q ≤ r + rest))
+      → Wrote b at (word ++ (digits ++ y)) last q × (q ≤ at + (length word + most + rest))
+  field-then rest {y} h next =
+      let w = field-last (omega arith) in
+      let v = next (omega (arith, w .1, kept (w .0))) in
+      (rw (sym (append-assoc word digits y)) (wrote-then (w .0) (v .0)), omega (arith, w .1, v .1))
+
+-- bytes from the start on
+pub from-start : (b x : List ℕ) → over b 0 x ≡ x ++ drop (length x) b
+unfolding over
+from-start b x = rw (zero-add (length x))

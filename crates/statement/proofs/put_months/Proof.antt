@@ -1,0 +1,64 @@
+-- `statement::put_months` meets its contract. The loop's invariant: the lines of the months passed stand in the buffer.
+-- Assumes nothing.
+use Prim.Native.Nat.{ℕ, _*_, _-_, _≤_}
+use mathlib.Core.Path.{_≡_}
+use native.Mathlib.Omega.{arith}
+use borrow.Author.Needs.{needs}
+use Rattle.months.specs.Summary.{summaryOf}
+use Rattle.printing.specs.Printing.{Wrote}
+use Rattle.printing.proofs.Placed.{kept}
+use Rattle.statement.specs.Statement.{monthLines}
+use Rattle.statement.proofs.Lines.{none, one-more}
+use Rattle.statement.proofs.put_months.Statement.{statement}
+use Rattle.statement.proofs.put_months.Tie as tie
+
+abbrev Inv-loop : tie.InvT-loop
+Inv-loop out₀ a m₀ place₀ out m place = (m ≤ 15) × (place ≤ 510 * m) × Wrote out₀ 0 (monthLines (λ (k : ℕ). summaryOf a k) m) out place
+
+abbrev μ-loop : tie.MeasureT-loop
+μ-loop out₀ a m₀ place₀ out m place = 15 - m
+
+loop-holds : tie.Need-loop-holds Inv-loop μ-loop
+loop-holds c = (search needs, search needs, none _ _)
+
+summary-requires : tie.Need-summary-requires Inv-loop μ-loop
+summary-requires c κs = search needs
+
+put-line-requires : tie.Need-put-line-requires Inv-loop μ-loop
+put-line-requires c κs = let l = c .before .before .before .loop in omega (arith, kept (l .inv .2), c .before .before .before .before .before .pre)
+
+add-m : tie.Need-add-m Inv-loop μ-loop
+add-m c = search needs
+
+loop-less : tie.Need-loop-less Inv-loop μ-loop
+loop-less c = search needs
+
+loop-again : tie.Need-loop-again Inv-loop μ-loop
+loop-again c =
+    let l = c .before .before .before .before .before .before .loop in
+    let line = c .before .before .put-line .ensures in
+    (search needs, omega (arith, l .inv .1, line .1), one-more _ (l .m) _ (l .inv .2) (c .before .before .before .before .summary .ensures .0) (line .0))
+
+same-length : tie.Need-same-length Inv-loop μ-loop
+same-length c = kept (c .before .loop .inv .2)
+
+returns : tie.Need-returns Inv-loop μ-loop
+returns c =
+    let l = c .before .loop in
+    let e : l .m ≡ 15 = omega arith in
+    rw e at (l .inv .2)
+
+pub put-months-spec : {M : Type 1} → statement M
+put-months-spec =
+    tie.close
+    (tie.spec
+    Inv-loop
+    μ-loop
+    loop-holds
+    summary-requires
+    put-line-requires
+    add-m
+    loop-less
+    loop-again
+    same-length
+    returns)

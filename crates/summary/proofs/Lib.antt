@@ -1,3 +1,0 @@
-pub mod Placed
-pub mod Events
-pub mod Whole
