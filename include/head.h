@@ -86,7 +86,8 @@ typedef struct {
 } prepay_answer;
 
 /* One account, as numbers alone. Filled by prepay_open and changed by prepay_post and prepay_row only. Numbers that no call of this
- * library wrote are harmless: an event is refused by 1 and leaves them as they are, readings and figures are of no account. */
+ * library wrote are harmless: an event is refused by 1 and leaves them as they are, readings and figures are of no account. The four
+ * bytes before `charges` are in no field and may change in any call: compare accounts, and sum their bytes, by the fields. */
 typedef struct {
     uint64_t credit, debit, plan, standing;
     uint32_t count, events, last, on;
