@@ -50,16 +50,16 @@ echo
 
 if command -v valgrind >/dev/null; then
     count() { valgrind --tool=callgrind --callgrind-out-file="$2" "./$1" <"$3" 2>&1 >/dev/null | sed -n 's/.*Collected : //p'; }
+    copies() { callgrind_annotate --threshold=100 "$1" | awk '/^ *[0-9,]+ \(.*:[^ ]*mem(cpy|move|set)/ { gsub(",", "", $1); sum += $1 } END { print sum + 0 }'; }
     events=$(($(wc -l <prepay.out) - 1))
     echo
-    echo "Instructions by valgrind's callgrind, less the empty text's (each byte of a long memcpy counts as one: the second column leaves the copies out):"
+    echo "Instructions an event, by valgrind's callgrind, less the empty text's (each byte of a long memcpy counts as one: the second column leaves memcpy and memset out):"
     echo
-    echo "| | an event | without memcpy and memset |"
+    echo "| | all | the rest |"
     echo "|---|---|---|"
     for program in prepay prepay_fast prepay_ref; do
         all=$(count $program $program.calls text)
         none=$(count $program $program.calls0 /dev/null)
-        copies() { callgrind_annotate --threshold=100 "$1" | grep -E 'mem(cpy|move|set)' | sed -E 's/^ *([0-9,]+).*/\1/; s/,//g' | paste -sd+ | sed 's/^$/0/' | bc; }
         rest=$((all - none - $(copies $program.calls) + $(copies $program.calls0)))
         echo "| $program | $(((all - none) / events)) | $((rest / events)) |"
     done
@@ -67,7 +67,7 @@ if command -v valgrind >/dev/null; then
     echo "Where prepay's instructions go:"
     echo
     callgrind_annotate prepay.calls | grep -E '^ *[0-9,]+ \(' | grep -v 'PROGRAM TOTALS' | head -8 |
-        sed -E 's/^ *[0-9,]+ \( *([0-9.]+%)\) +[^:]*:(.*) \[.*/\1 \2/; s/^/    /'
+        sed -E 's/^ *[0-9,]+ \( *([0-9.]+%)\) +[^:]*:(.*) \[.*/    \1 \2/'
 fi
 
 echo

@@ -429,6 +429,15 @@ impl Account {
         }
     }
 
+    /// The form that document 01 names for the head: copy the record, post to the copy, store it.
+    #[inline(never)]
+    pub fn post_by_copy(&mut self, e: &Event) -> Answer {
+        let mut copy = *self;
+        let answer = copy.post(e);
+        *self = copy;
+        answer
+    }
+
     /// Posts the row in order, a code byte each. 0; or 16, nothing posted and nothing written, where the bytes are fewer than the events.
     pub fn row(&mut self, row: &[Event], codes: &mut [u8]) -> u8 {
         if codes.len() < row.len() {

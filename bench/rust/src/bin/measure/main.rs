@@ -174,6 +174,7 @@ fn one_post(samples: usize, row: &[Event]) {
     let fast = Account::open(&mix::TERMS).unwrap();
     let (m, n) = (ROW / 4, ROW);
     let mut singly = Box::new(fresh);
+    let mut copied = Box::new(fast);
     let mut late = Box::new(fresh);
     late.row(row, &mut vec![0; ROW]);
     let mut pages: Vec<Box<Pages>> = PLACES.iter().map(|_| Box::new(Pages([1; 65_536]))).collect();
@@ -191,6 +192,14 @@ fn one_post(samples: usize, row: &[Event]) {
             }) / ROW as f64
         }),
         Box::new(|| {
+            *copied = fast;
+            time(|| {
+                for e in row {
+                    black_box(copied.post_by_copy(black_box(e)));
+                }
+            }) / ROW as f64
+        }),
+        Box::new(|| {
             time(|| {
                 for _ in 0..100 {
                     black_box(late.row(black_box(&[]), &mut []));
@@ -204,7 +213,7 @@ fn one_post(samples: usize, row: &[Event]) {
     let times = in_turn(samples, &mut tasks);
     let native = difference(&times[1], &times[0], n - m);
     let rust = difference(&times[3], &times[2], n - m);
-    let (single, empty, floors) = (&times[4], &times[5], &times[6..]);
+    let (single, copying, empty, floors) = (&times[4], &times[5], &times[6], &times[7..]);
     let least = floors.iter().min_by(|a, b| median(a.to_vec()).total_cmp(&median(b.to_vec()))).unwrap();
     println!("\n## (a) One post, of the mix\n");
     println!("| | ns, median | lowest tenth | to the floor |\n|---|---|---|---|");
@@ -214,6 +223,7 @@ fn one_post(samples: usize, row: &[Event]) {
     }
     tell(&format!("Rattle post over the record: (row of {n} less row of {m}) / {}", n - m), &native);
     tell("Rust post in place, by the same rows", &rust);
+    tell("Rust post in the same form: copy, post, store", copying);
     tell("prepay_post over the image in C memory", single);
     tell("of it the conversion: less the post over the record", &difference(single, &native, 1));
     tell("prepay_row of no events, conversion alone", empty);

@@ -11,6 +11,33 @@ pub fn damage(r: &mut Rng, mut text: Vec<u8>) -> Vec<u8> {
     text
 }
 
+/// Every byte of the text wrong in several ways, taken out and doubled, and
+/// every truncation.
+pub fn at_every_place(r: &mut Rng, text: &[u8], mut each: impl FnMut(Vec<u8>)) {
+    for i in 0..text.len() {
+        let old = text[i];
+        let digit = if old == b'9' { b'8' } else { b'9' };
+        let mut wrong = vec![b'\n', b'\r', b'=', b' ', b'0', digit, b'a', b'-', 0, 0x80, 0xFF, old ^ 0x20, old ^ 0x80, r.pick(BYTES), r.next() as u8];
+        wrong.sort();
+        wrong.dedup();
+        for new in wrong.into_iter().filter(|&new| new != old) {
+            let mut t = text.to_vec();
+            t[i] = new;
+            each(t);
+        }
+        let mut t = text.to_vec();
+        t.remove(i);
+        each(t);
+        let mut t = text.to_vec();
+        t.insert(i, old);
+        each(t);
+        let mut t = text.to_vec();
+        t.insert(i, r.pick(BYTES));
+        each(t);
+        each(text[..i].to_vec());
+    }
+}
+
 /// Where a line stands: start, its `=` if any, end without the line feed.
 struct Line {
     start: usize,

@@ -18,6 +18,8 @@ pub enum End {
     Exit(i32),
     Signal(i32),
     Timeout,
+    /// A call of the library touched memory that it must not, or the like.
+    Wrong(String),
 }
 
 #[derive(Clone, Debug, PartialEq, Eq)]

@@ -23,6 +23,9 @@ const KINDS: [(&str, u64); 13] = [
     ("long damaged", 1),
 ];
 
+/// A text may have as many bytes.
+pub const WHOLE: usize = MOST_BYTES;
+
 /// A text and the name of the generator that made it.
 pub fn text(r: &mut Rng) -> (Vec<u8>, &'static str) {
     let kind = r.weighted(&KINDS.map(|k| k.1));
@@ -69,7 +72,7 @@ fn good_date(r: &mut Rng) -> Date {
     Date::new(year, month, day)
 }
 
-fn good_terms(r: &mut Rng) -> Terms {
+pub fn good_terms(r: &mut Rng) -> Terms {
     if r.percent(10) {
         return Terms { open: Date::new(2024, 1, 1), price: 1250, connect: 5000, cutoff: 1000, share: 50 };
     }
@@ -104,7 +107,7 @@ fn good_terms(r: &mut Rng) -> Terms {
 }
 
 /// Terms at or over one limit or two.
-fn edge_terms(r: &mut Rng) -> Terms {
+pub fn edge_terms(r: &mut Rng) -> Terms {
     let mut t = good_terms(r);
     for _ in 0..r.range(1, 2) {
         match r.below(6) {
@@ -572,7 +575,7 @@ fn strange_event(r: &mut Rng, x: u32, payments: u32) -> Event {
 }
 
 /// Up to `scenarios` scenarios of a few events each.
-fn guided(r: &mut Rng, limit: usize, scenarios: u64) -> Vec<u8> {
+pub fn guided(r: &mut Rng, limit: usize, scenarios: u64) -> Vec<u8> {
     let limit = r.range(limit as i64 / 8, limit as i64) as usize;
     let top = r.pick(&[LAST_DAY, LAST_DAY, LAST_DAY, 60, 14]);
     let n = r.below(scenarios) + 1;
@@ -599,7 +602,7 @@ fn guided(r: &mut Rng, limit: usize, scenarios: u64) -> Vec<u8> {
 }
 
 /// About 128 payments, on the way with a plan, reversals and days.
-fn payments(r: &mut Rng) -> Vec<u8> {
+pub fn payments(r: &mut Rng) -> Vec<u8> {
     let terms = good_terms(r);
     let mut g = Guide::new(r, terms, LAST_DAY, 12_000);
     let target = g.r.range(125, 128) as usize;
@@ -623,7 +626,7 @@ fn payments(r: &mut Rng) -> Vec<u8> {
 }
 
 /// Usage over the whole account's life, for the summaries.
-fn year(r: &mut Rng) -> Vec<u8> {
+pub fn year(r: &mut Rng) -> Vec<u8> {
     let terms = good_terms(r);
     let mut g = Guide::new(r, terms, LAST_DAY, MOST_BYTES);
     let step = g.r.range(1, 6) as u32;
@@ -668,7 +671,7 @@ fn year(r: &mut Rng) -> Vec<u8> {
 }
 
 /// 4,095 to 4,097 accepted events and what comes then.
-fn full(r: &mut Rng) -> Vec<u8> {
+pub fn full(r: &mut Rng) -> Vec<u8> {
     let terms = good_terms(r);
     let top = r.pick(&[7, 9, 9, 40]);
     let mut g = Guide::new(r, terms, top, 2_000);
@@ -703,7 +706,7 @@ fn full(r: &mut Rng) -> Vec<u8> {
 }
 
 /// Sums far beyond 32 bits.
-fn deep(r: &mut Rng) -> Vec<u8> {
+pub fn deep(r: &mut Rng) -> Vec<u8> {
     let terms = good_terms(r);
     let mut g = Guide::new(r, terms, LAST_DAY, MOST_BYTES);
     let up = g.r.percent(35);
@@ -835,7 +838,7 @@ fn edge(r: &mut Rng) -> Vec<u8> {
 // Random texts.
 
 /// No ledger here: sorts and fields at random, of all sizes.
-fn random(r: &mut Rng, limit: usize) -> Vec<u8> {
+pub fn random(r: &mut Rng, limit: usize) -> Vec<u8> {
     let limit = r.range(100, limit as i64) as usize;
     let terms = if r.percent(4) { edge_terms(r) } else { good_terms(r) };
     let mut out = Vec::new();

@@ -1,5 +1,5 @@
-//! A small generator of numbers (splitmix64): one per text, from the run's
-//! seed and the text's index, so that any text can be made again by itself.
+//! A small generator of numbers (splitmix64): one per text or list, from the
+//! run's seed and its index, so that any of them can be made again by itself.
 
 pub struct Rng(u64);
 
@@ -12,6 +12,10 @@ fn mix(mut z: u64) -> u64 {
 impl Rng {
     pub fn for_text(seed: u64, index: u64) -> Rng {
         Rng(mix(mix(seed.wrapping_add(0x9e3779b97f4a7c15)).wrapping_add(index)))
+    }
+
+    pub fn for_list(seed: u64, index: u64) -> Rng {
+        Rng(mix(mix(seed.wrapping_add(0x51ed270b9f3a2c17)).wrapping_add(index)))
     }
 
     pub fn next(&mut self) -> u64 {

@@ -1,6 +1,7 @@
 //! What the texts reached, counted on the reference's side.
 
 use reference::ledger::{Entry, Event, Ledger, Usage};
+use reference::rows::Record;
 use reference::text::{Run, MOST_BYTES};
 use std::collections::BTreeMap;
 use Event::*;
@@ -220,6 +221,113 @@ impl Stats {
         println!("\nnear the limits:");
         for (name, n) in &self.edges {
             println!("  {name:<34} {n:>9}");
+        }
+    }
+}
+
+/// What the lists of calls reached.
+#[derive(Default)]
+pub struct CallStats {
+    pub lists: u64,
+    pub calls: u64,
+    pub makers: BTreeMap<&'static str, u64>,
+    /// Terms accepted and refused.
+    pub opened: [u64; 2],
+    pub posts: u64,
+    /// Rows by length of their buffer, and by their own length.
+    pub rows: BTreeMap<&'static str, u64>,
+    pub lengths: BTreeMap<&'static str, u64>,
+    pub rows_in_all: u64,
+    pub row_events: u64,
+    pub figures: u64,
+    pub readings: u64,
+    /// Answers to events (1: of no account), and rows answered 16.
+    pub codes: [u64; 17],
+    /// By sort, the last one being no sort.
+    pub by_sort: [[u64; 15]; 12],
+}
+
+impl CallStats {
+    pub fn note_open(&mut self, code: u8) {
+        self.opened[code as usize] += 1;
+    }
+
+    pub fn note_event(&mut self, record: &Record, code: u8, in_row: bool) {
+        *(if in_row { &mut self.row_events } else { &mut self.posts }) += 1;
+        self.codes[code as usize] += 1;
+        let sort = record.event().map_or(11, sort);
+        self.by_sort[sort][code as usize] += 1;
+    }
+
+    pub fn note_row(&mut self, row: &[Record], buffer: usize, answer: u8, codes: &[u8]) {
+        self.rows_in_all += 1;
+        let kind = match (row.len(), buffer) {
+            (0, 0) => "empty, no buffer",
+            (0, _) => "empty, a buffer",
+            (n, b) if b == n => "buffer as long",
+            (n, b) if b == n + 1 => "buffer one byte longer",
+            (n, b) if b > n => "buffer longer",
+            (n, b) if b + 1 == n => "buffer one byte short (16)",
+            (_, 0) => "no buffer (16)",
+            _ => "buffer much too short (16)",
+        };
+        *self.rows.entry(kind).or_default() += 1;
+        let length = match row.len() {
+            0 => "0",
+            1 => "1",
+            2..=9 => "2 to 9",
+            10..=99 => "10 to 99",
+            100..=299 => "100 to 299",
+            300..=999 => "300 to 999",
+            _ => "more",
+        };
+        *self.lengths.entry(length).or_default() += 1;
+        if answer == 16 {
+            self.codes[16] += 1;
+        } else {
+            for (record, &code) in row.iter().zip(codes) {
+                self.note_event(record, code, true);
+            }
+        }
+    }
+
+    pub fn print(&self) {
+        println!(
+            "lists of calls {}, calls {}: single posts {}, rows {} with {} events, figures of all months {}; readings compared {}",
+            self.lists, self.calls, self.posts, self.rows_in_all, self.row_events, self.figures, self.readings
+        );
+        println!("accounts opened {}, terms refused (1) {}", self.opened[0], self.opened[1]);
+        println!("lists by generator:");
+        for (name, n) in &self.makers {
+            println!("  {name:<14} {n:>9}");
+        }
+        println!("\nrows by their buffer:");
+        for (name, n) in &self.rows {
+            println!("  {name:<28} {n:>9}");
+        }
+        println!("rows by their length:");
+        for (name, n) in &self.lengths {
+            println!("  {name:<28} {n:>9}");
+        }
+        println!("\nanswers by code (1: events of no account; 16: rows; 15 is of texts):");
+        for (code, n) in self.codes.iter().enumerate() {
+            println!("  code {code:<2} {n:>10}");
+        }
+        println!("\nrecords by sort and code (0 is accepted):");
+        print!("  {:<10}", "");
+        for c in 0..15 {
+            print!(" {c:>8}");
+        }
+        println!();
+        for (i, row) in self.by_sort.iter().enumerate() {
+            print!("  {:<10}", SORTS.get(i).unwrap_or(&"no sort"));
+            for &n in row {
+                match n {
+                    0 => print!(" {:>8}", "."),
+                    n => print!(" {n:>8}"),
+                }
+            }
+            println!();
         }
     }
 }

@@ -1,4 +1,4 @@
--- `account_test::bench::say_signed` is safe: the casts are made of numbers that are not negative, and no negation leaves 64 bits.
+-- `account_test::bench::size_of` is safe: the casts are made of numbers that are not negative, and no negation leaves 64 bits.
 -- Assumes nothing.
 use mathlib.Core.Path.{_≡_, sym, subst, _∙_}
 use mathlib.Core.Bool.{true, false}
@@ -13,8 +13,8 @@ use mir.Syntax.{w64}
 use mir.Val.{Fits, SFits, toZ, ofZ}
 use mir.ValLaws.{toZ-ofZ}
 use mir.Facts.{fits-natAbs}
-use Rattle.account_test.proofs.bench.say_signed.Statement.{statement}
-use Rattle.account_test.proofs.bench.say_signed.Tie as tie
+use Rattle.account_test.proofs.bench.size_of.Statement.{statement}
+use Rattle.account_test.proofs.bench.size_of.Tie as tie
 
 -- what the machine reads back of a number that fits, fits
 back : (z : ℤ) → SFits w64 z → SFits w64 (toZ w64 (ofZ w64 z))
@@ -37,34 +37,19 @@ positive (negsuc n) t = tt
 negated : (z : ℤ) → T (nonNeg z) → SFits w64 z → T (nonNeg (toZ w64 (ofZ w64 z))) × Fits w64 (natAbs (toZ w64 (ofZ w64 z)))
 negated z p f = (subst (λ (y : ℤ). T (nonNeg y)) (sym (toZ-ofZ w64 z f)) p, fits-natAbs {w = w64} {w′ = w64} tt (back z f))
 
-cast-say-number : tie.Need-cast-say-number
-cast-say-number c = up _ (back _ (c .before .fits .n)) (c .if1 .taken)
-
-say-number-requires : tie.Need-say-number-requires
-say-number-requires c κs = search needs
+cast-result : tie.Need-cast-result
+cast-result c = up _ (back _ (c .before .fits .n)) (c .if1 .taken)
 
 returns : tie.Need-returns
 returns c = search needs
 
-slice-aggregate-say : tie.Need-slice-aggregate-say
-slice-aggregate-say c = search needs
+sub-result : tie.Need-sub-result
+sub-result c = down (toZ w64 (ofZ w64 (c .before .before .args .n))) (c .before .if1 .left) (c .if2 .taken)
 
-say-requires : tie.Need-say-requires
-say-requires c κs = search needs
-
-sub-say-number : tie.Need-sub-say-number
-sub-say-number c = down (toZ w64 (ofZ w64 (c .before .before .before .before .args .n))) (c .before .before .before .if1 .left) (c .if2 .taken)
-
-cast-say-number-2 : tie.Need-cast-say-number-2
-cast-say-number-2 c =
-    let z = toZ w64 (ofZ w64 (c .before .before .before .before .args .n)) in
-    negated (pos 0 -ℤ z) (positive z (c .before .before .before .if1 .left)) (down z (c .before .before .before .if1 .left) (c .if2 .taken))
-
-say-number-requires-2 : tie.Need-say-number-requires-2
-say-number-requires-2 c κs = search needs
-
-say-number-requires-3 : tie.Need-say-number-requires-3
-say-number-requires-3 c κs = search needs
+cast-result-2 : tie.Need-cast-result-2
+cast-result-2 c =
+    let z = toZ w64 (ofZ w64 (c .before .before .args .n)) in
+    negated (pos 0 -ℤ z) (positive z (c .before .if1 .left)) (down z (c .before .if1 .left) (c .if2 .taken))
 
 returns-2 : tie.Need-returns-2
 returns-2 c = search needs
@@ -72,18 +57,5 @@ returns-2 c = search needs
 returns-3 : tie.Need-returns-3
 returns-3 c = search needs
 
-pub say-signed-spec : {M : Type 1} → statement M
-say-signed-spec =
-    tie.close
-    (tie.spec
-    cast-say-number
-    say-number-requires
-    returns
-    slice-aggregate-say
-    say-requires
-    sub-say-number
-    cast-say-number-2
-    say-number-requires-2
-    say-number-requires-3
-    returns-2
-    returns-3)
+pub size-of-spec : {M : Type 1} → statement M
+size-of-spec = tie.close (tie.spec cast-result returns sub-result cast-result-2 returns-2 returns-3)
