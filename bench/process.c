@@ -1,6 +1,6 @@
 /* process RUNS TEXT PROGRAM...: whole runs of programs, standard input from TEXT and from an empty file in turn, standard output to
- * /dev/null. Prints a table of medians: wall time, the process's own time (user and system, which other processes do not disturb), the
- * same less the empty text's, page faults. */
+ * /dev/null. Prints two tables, of wall time and of the processes' own time (user and system, which other processes disturb less): for the
+ * text, for the empty text, the one less the other; medians and lowest tenths; and how many times as long the first program takes. */
 #define _GNU_SOURCE
 #include <fcntl.h>
 #include <spawn.h>
@@ -29,9 +29,26 @@ static int by_size(const void *a, const void *b) {
     return x < y ? -1 : x > y;
 }
 
-static double median(double *v, int n) {
+/* Which, of 100, in the order of size. */
+static double at(double *v, int n, int hundredth) {
     qsort(v, n, sizeof *v, by_size);
-    return v[n / 2];
+    return v[(n - 1) * hundredth / 100];
+}
+
+static void table(const char *what, double *times[][2], int runs, int programs, char **names, long faults[][2]) {
+    printf("| %s | median | lowest tenth | empty text | lowest tenth | less empty | lowest tenth | first to it | less empty |%s\n", what,
+           faults ? " faults | empty text |" : "");
+    printf("|---|---|---|---|---|---|---|---|---|%s\n", faults ? "---|---|" : "");
+    double first[2] = {0};
+    for (int p = 0; p < programs; p++) {
+        double t = at(times[p][0], runs, 50), t10 = at(times[p][0], runs, 10), e = at(times[p][1], runs, 50), e10 = at(times[p][1], runs, 10);
+        if (p == 0) first[0] = t, first[1] = t - e;
+        const char *name = strrchr(names[p], '/');
+        printf("| %s | %.0f | %.0f | %.0f | %.0f | %.0f | %.0f | %.2f | %.2f |", name ? name + 1 : names[p], t, t10, e, e10, t - e, t10 - e10,
+               first[0] / t, first[1] / (t - e));
+        if (faults) printf(" %ld | %ld |", faults[p][0], faults[p][1]);
+        printf("\n");
+    }
 }
 
 int main(int argc, char **argv) {
@@ -67,21 +84,8 @@ int main(int argc, char **argv) {
                 own[p][e][i] = micros(use.ru_utime) + micros(use.ru_stime);
                 faults[p][e] = use.ru_minflt;
             }
-    printf("| process | wall us | empty text | less empty | own us | empty text | less empty | faults | empty text |\n");
-    printf("|---|---|---|---|---|---|---|---|---|\n");
-    double first[4] = {0};
-    for (int p = 0; p < programs; p++) {
-        double w = median(wall[p][0], runs), w0 = median(wall[p][1], runs);
-        double o = median(own[p][0], runs), o0 = median(own[p][1], runs);
-        double all[4] = {w, w - w0, o, o - o0};
-        const char *name = strrchr(argv[3 + p], '/');
-        printf("| %s | %.0f | %.0f | %.0f | %.0f | %.0f | %.0f | %ld | %ld |\n", name ? name + 1 : argv[3 + p], w, w0, w - w0, o, o0, o - o0,
-               faults[p][0], faults[p][1]);
-        if (p == 0) {
-            memcpy(first, all, sizeof all);
-        } else {
-            printf("| (first / this) | %.2f | | %.2f | %.2f | | %.2f | | |\n", first[0] / all[0], first[1] / all[1], first[2] / all[2], first[3] / all[3]);
-        }
-    }
+    table("wall us", wall, runs, programs, argv + 3, NULL);
+    printf("\n");
+    table("own us", own, runs, programs, argv + 3, faults);
     return 0;
 }

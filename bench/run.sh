@@ -44,7 +44,7 @@ echo
 echo
 echo "## (c) As processes, standard input from a file, standard output to /dev/null"
 echo
-echo "Own time is user and system time of the process, which other processes do not disturb; \"first\" is prepay."
+echo "Wall time, and own time: user and system time of the process. \"First to it\": how many times as long prepay takes."
 echo
 "${one[@]}" ./process "$samples" text ./prepay ./prepay_fast ./prepay_ref
 

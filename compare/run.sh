@@ -1,7 +1,7 @@
 #!/bin/bash
 # Compares the Rattle library and programs with the reference.
 # Arguments: number of texts and of lists of calls (default 20000 each), seed (default 1); more are passed
-# on to the comparison (see reference/target/release/compare --help x).
+# on to the comparison (`reference/target/release/compare --help` lists them).
 # The library must have been built by `rt staticlib head`, the programs by `rt check prepay summary`;
 # HEAD_LIBRARY, PREPAY and SUMMARY name others. Programs that are not there are left out.
 set -euo pipefail

@@ -12,8 +12,8 @@ pattern=${3:-.}
 
 work=$(mktemp -d)
 trap 'rm -rf "$work"' EXIT
-# Plain arithmetic, as a careless program would have it.
-export CARGO_PROFILE_RELEASE_OVERFLOW_CHECKS=false CARGO_PROFILE_RELEASE_DEBUG_ASSERTIONS=false
+# Plain arithmetic, as a careless program would have it; built in haste.
+export CARGO_PROFILE_RELEASE_OVERFLOW_CHECKS=false CARGO_PROFILE_RELEASE_DEBUG_ASSERTIONS=false CARGO_PROFILE_RELEASE_OPT_LEVEL=1
 build() {
     CARGO_TARGET_DIR=$work/target cargo build --release --offline --quiet --manifest-path "$work/Cargo.toml" \
         --example shim --bin prepay_ref --bin summary_ref 2>"$work/warnings" || { cat "$work/warnings"; exit 2; }
@@ -25,14 +25,14 @@ copy() {
 run() {
     LD_LIBRARY_PATH=$work/target/release/examples "$compare" --prepay "$work/target/release/prepay_ref" \
         --summary "$work/target/release/summary_ref" --texts "$count" --lists "$count" --seed "$seed" \
-        --most-failures 1 --shrink-seconds 10 --failures "$work/failures" "$@" >"$work/log"
+        --most-failures 1 --shrink-seconds 5 --failures "$work/failures" "$@" >"$work/log"
 }
 
 # The comparison itself, linked to the library's name; its mistakes come later.
 copy
 build
 (
-    unset CARGO_PROFILE_RELEASE_OVERFLOW_CHECKS CARGO_PROFILE_RELEASE_DEBUG_ASSERTIONS
+    unset CARGO_PROFILE_RELEASE_OVERFLOW_CHECKS CARGO_PROFILE_RELEASE_DEBUG_ASSERTIONS CARGO_PROFILE_RELEASE_OPT_LEVEL
     HEAD_LIBRARY=$work/target/release/examples/libshim.so CARGO_TARGET_DIR=$work/compare cargo build --release --offline --quiet \
         --manifest-path reference/Cargo.toml
 )

@@ -29,7 +29,7 @@ calls=$(nm "$library" | awk '$1 == "U" { print $2 }' | sort -u | tr '\n' ' ')
 [[ $calls == "memcpy memset " ]] || fail "the library calls $calls"
 
 # The header as C++, and as C on its own.
-printf '#include "head.h"\nstatic_assert(sizeof(prepay_account) == 8328, "");\nuint8_t f(prepay_account &a) { return prepay_row(&a, 0, 0, 0, 0); }\n' \
+printf '#include "head.h"\nstatic_assert(sizeof(prepay_account) == 8328, "");\nuint8_t f(prepay_account &a, const prepay_event &e, uint8_t &c) { return prepay_row(&a, &e, 1, &c, 1); }\n' \
     >"$work/header.cpp"
 g++ -x c++ -std=c++11 -fsyntax-only "${strict[@]}" "$work/header.cpp" || fail "head.h is no C++"
 gcc -x c -std=c11 -pedantic -fsyntax-only "${strict[@]}" include/head.h || fail "head.h does not stand alone"

@@ -52,7 +52,7 @@ fn wild_event(r: &mut Rng, day: &mut u32) -> Event {
     }
     let x = match r.below(40) {
         0 => day.saturating_sub(1),
-        1 if r.below(30) == 0 => pick(r, &[398, 399]),
+        1 if r.below(100) == 0 => pick(r, &[398, 399]),
         1 => pick(r, &[400, 401, u32::MAX]),
         _ => *day,
     };
@@ -89,6 +89,15 @@ fn wild_text(r: &mut Rng, most: u32) -> Vec<u8> {
     let mut out = Vec::new();
     text::write_terms(&mut out, &wild_terms(r));
     let mut day = pick(r, &[0, 0, 50, 390]);
+    if r.below(5) == 0 {
+        // A plan on the edge.
+        let amount = pick(r, &[4_999, 5_000, 5_001, 1]);
+        let kind = r.range(1, 2);
+        for e in [Event { sort: MARK, from: day, to: day, ..Event::default() }, Event { sort: CHARGE, amount, ..Event::default() }] {
+            text::write_event(&mut out, &Event { day, kind: 1, ..e });
+        }
+        text::write_event(&mut out, &Event { sort: PLAN, day: day + r.below(5), kind, ..Event::default() });
+    }
     let payer = r.below(40) == 0;
     for _ in 0..r.below(most) {
         let mut e = wild_event(r, &mut day);
@@ -100,7 +109,7 @@ fn wild_text(r: &mut Rng, most: u32) -> Vec<u8> {
     out
 }
 
-/// A few bytes changed, taken out or put in, or the end cut off.
+/// A few bytes changed, taken out or put in, a number's own edges, or the end cut off.
 fn damage(r: &mut Rng, out: &mut Vec<u8>) {
     for _ in 0..r.range(1, 3) {
         if out.is_empty() {
@@ -108,7 +117,13 @@ fn damage(r: &mut Rng, out: &mut Vec<u8>) {
         }
         let at = r.below(out.len() as u32) as usize;
         let byte = pick(r, b"\n\n\n=0019-+ x\r\0daybcemoprw");
-        match r.below(5) {
+        match r.below(6) {
+            5 => {
+                let Some(start) = out[at..].iter().position(|&b| b == b'=').map(|i| at + i + 1) else { return };
+                let end = out[start..].iter().position(|&b| b == b'\n').map_or(out.len(), |i| start + i);
+                let numbers: [&[u8]; 8] = [b"4294967295", b"4294967296", b"4294967297", b"42949672950", b"99999999999", b"00", b"01", b""];
+                out.splice(start..end, pick(r, &numbers).iter().copied());
+            }
             0 => out[at] = byte,
             1 => out.insert(at, byte),
             2 => drop(out.remove(at)),
@@ -220,9 +235,8 @@ fn long_texts() {
         // 4,096 warnings and more of all.
         let mut full = Vec::new();
         text::write_terms(&mut full, &some_terms(r));
-        let mut day = 3;
         for _ in 0..20 {
-            text::write_event(&mut full, &wild_event(r, &mut day));
+            text::write_event(&mut full, &Event { day: 3, ..wild_event(r, &mut 3) });
         }
         while full.len() + 14 * 20 < 65_536 {
             let warn = Event { sort: WARN, day: 3, ..Event::default() };

@@ -1,5 +1,6 @@
 use crate::calendar::*;
 use crate::ledger::*;
+use crate::rows::*;
 use crate::summary;
 use crate::text::*;
 
@@ -428,4 +429,73 @@ fn settled_identity() {
         l.step(x, e);
         assert_eq!(l.balance - l.plan, l.settled() - l.standing_estimates());
     }
+}
+
+// Records and rows.
+
+fn example_records() -> Vec<Record> {
+    let mut reader = Reader { rest: EXAMPLE.as_bytes() };
+    reader.terms().unwrap();
+    let mut records = Vec::new();
+    while let Some((day, event)) = reader.event() {
+        records.push(Record::of(day, event));
+    }
+    records
+}
+
+#[test]
+fn records_and_events() {
+    for record in example_records() {
+        assert_eq!(Record::of(record.day, record.event().unwrap()), record);
+    }
+    assert_eq!(example_records().iter().map(|r| r.sort).collect::<Vec<u32>>(), [1, 11, 5, 6, 7, 4, 10, 10, 1, 11]);
+}
+
+#[test]
+fn rows_of_the_worked_example() {
+    let records = example_records();
+    let good = [0, 0, 0, 0, 0, 0, 13, 0, 0, 12];
+    let (_, mut singly) = Head::open(terms());
+    assert_eq!(records.iter().map(|r| singly.post(r).code).collect::<Vec<u8>>(), good);
+    for length in 1..=10 {
+        let (code, mut head) = Head::open(terms());
+        assert_eq!(code, 0);
+        for (row, good) in records.chunks(length).zip(good.chunks(length)) {
+            // One byte too short, then two bytes longer.
+            let before = head.ledger.clone();
+            let mut short = vec![99; row.len() - 1];
+            assert_eq!(head.row(row, &mut short), 16);
+            assert!(short.iter().all(|&b| b == 99) && head.ledger == before);
+            let mut codes = vec![99; row.len() + 2];
+            assert_eq!(head.row(row, &mut codes), 0);
+            assert_eq!(codes[..row.len()], *good);
+            assert_eq!(codes[row.len()..], [99, 99]);
+            // An empty row.
+            let before = head.ledger.clone();
+            assert_eq!(head.row(&[], &mut codes), 0);
+            assert_eq!(head.row(&[], &mut []), 0);
+            assert!(head.ledger == before);
+        }
+        assert!(head.ledger == singly.ledger);
+    }
+}
+
+#[test]
+fn sorts_outside_their_limits() {
+    let (_, mut head) = Head::open(terms());
+    head.post(&Record { sort: 7, day: 5, ..Record::default() });
+    for sort in [0, 12, 256 + 7, u32::MAX] {
+        for (day, code) in [(4, 2), (5, 3), (399, 3), (400, 2)] {
+            assert_eq!(head.post(&Record { sort, day, ..Record::default() }), Answer { code, value: 0 });
+        }
+    }
+}
+
+#[test]
+fn refused_terms_make_no_account() {
+    let (code, mut head) = Head::open(Terms { share: 51, ..terms() });
+    assert_eq!(code, 1);
+    let mut codes = [99; 11];
+    assert_eq!(head.row(&example_records(), &mut codes), 0);
+    assert_eq!(codes, [1, 1, 1, 1, 1, 1, 1, 1, 1, 1, 99]);
 }

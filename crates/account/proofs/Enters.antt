@@ -3,8 +3,8 @@ use mathlib.Core.Path.{_≡_, refl, sym, ap, _∙_}
 use mathlib.Core.Bool.{Bool, true, false, cond, not}
 use mathlib.Core.List.{List}
 use mathlib.Core.Logic.{inl, inr}
-use Prim.Native.Nat.{ℕ, _+_, _*_, _-_, _≤_, _<_, min}
-use native.Mathlib.Nat.{min-eq-left}
+use Prim.Native.Nat.{ℕ, _+_, _*_, _-_, _%_, _≤_, _<_}
+use native.Mathlib.Nat.{mod-lt, mod-eq-of-lt}
 use native.Mathlib.Omega.{arith}
 use lib.ListN.{getD, set}
 use lib.Seq.{set-getD}
@@ -244,17 +244,17 @@ module _ (a : Account) (e : Event) (number at : ℕ) (few : number < 128) where
 
 -- the places that the step looks at
 abbrev pub numberAt : Event → ℕ
-numberAt e = min (e .number) 127
+numberAt e = e .number % 128
 
 abbrev pub usedAt : Event → ℕ
-usedAt e = min (e .usage) 399
+usedAt e = e .usage % 400
 
 abbrev pub dayAt : Event → ℕ
-dayAt e = min (e .day) 399
+dayAt e = e .day % 400
 
 module _ (a : Account) (e : Event) where
   few : numberAt e < 128
-  few = omega arith
+  few = mod-lt (e .number) (omega arith)
 
   abbrev stands : Move
   stands = standing a e (numberAt e) (usedAt e) (dayAt e)
@@ -265,24 +265,24 @@ module _ (a : Account) (e : Event) where
   module _ (k : Early (a .terms) (a .totals) e) where
     -- the places of an event whose day and number are in order
     on-day : dayAt e ≡ e .day
-    on-day = min-eq-left (k .day)
+    on-day = mod-eq-of-lt (omega (arith, k .day))
 
     reversed : At (moves.reverseOf (a .terms) stands e) (head.reverseOf a e)
     reversed = decide (leb (a .totals .count) (e .number)) (λ t. no-payment a e (usedAt e) (dayAt e) (numberAt e) few t) (λ f.
         let h = leb-false (a .totals .count) (e .number) f in
-        let q : numberAt e ≡ e .number = min-eq-left (omega (arith, k .count)) in
+        let q : numberAt e ≡ e .number = mod-eq-of-lt (omega (arith, k .count)) in
         rw q (reversal a e (usedAt e) (dayAt e) (omega (arith, k .count))))
 
     estimated : At (moves.estimateOf (a .terms) stands e) (head.estimateOf a e)
     estimated = decide (leb (e .day) (e .usage)) (λ t. late a e (numberAt e) (dayAt e) few (usedAt e) t) (λ f.
         let h = leb-false (e .day) (e .usage) f in
-        let q : usedAt e ≡ e .usage = min-eq-left (omega (arith, k .day)) in
+        let q : usedAt e ≡ e .usage = mod-eq-of-lt (omega (arith, k .day)) in
         rw q (estimate a e (numberAt e) (dayAt e) few))
 
     metered : At (moves.readOf (a .terms) stands e) (head.readOf a e)
     metered = decide (leb (e .day) (e .usage)) (λ t. late-read a e (numberAt e) (dayAt e) few (usedAt e) t) (λ f.
         let h = leb-false (e .day) (e .usage) f in
-        let q : usedAt e ≡ e .usage = min-eq-left (omega (arith, k .day)) in
+        let q : usedAt e ≡ e .usage = mod-eq-of-lt (omega (arith, k .day)) in
         rw q (read a e (numberAt e) (dayAt e) few))
 
     charge-place : e .sort ≡ 4 → chargePlace (a .terms) e < 75
@@ -310,8 +310,10 @@ module _ (a : Account) (e : Event) where
         (or 10 _ _ _ _ (λ s. disconnects a e n u d few)
         (or 11 _ _ _ _ (λ s. connects a e n u d few) (refuses a e n u d few 3)))))))))))
 
-  pub entered : At (moveOf (a .terms) stands (a .charges) (a .marks) (a .warned) e) (stepOf a e)
-  unfolding moveOf stepOf
+  pub entered :
+      let m = moves.standing (a .totals) (getD (a .payments) (numberAt e) noPayment) (getD (a .days) (usedAt e) blankDay) (a .charges) (a .warned) e in
+      At (moveOf (a .terms) m (a .charges) (a .marks) (a .warned) e) (stepOf a e)
+  unfolding moveOf stepOf moves.standing
   entered =
       either a e (numberAt e) (usedAt e) (dayAt e) few (eqb (earlyCode (a .terms) (a .totals) e) 0) _ _ _ _
       (λ t. by-sort (early (a .terms) (a .totals) e (eqb-true _ 0 t)))

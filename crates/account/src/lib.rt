@@ -2,13 +2,11 @@
 // It uses the terms, the marks, the moves and the ledger's event; its promises cite specs/Head.antt.
 use ledger::Event;
 use moves::Day;
-use moves::Move;
 use moves::Payment;
 use moves::Totals;
 use moves::Usage;
 use terms::Terms;
 ghost use mathlib.Core.Path.{_≡_};
-ghost use Prim.Native.Nat.{min};
 ghost use Rattle.account.specs.Head.{stepOf, openOf};
 ghost use Rattle.account.specs.Record.{fresh};
 
@@ -79,16 +77,6 @@ pub fn open(t: Terms) -> Opened
     }
 }
 
-// The nearest place to n among places 0 to `last`.
-fn within(n: u32, last: u32) -> u32
-    ensures { λ r. ⌜ r ≡ min n last ⌝ }
-{
-    if n > last {
-        return last;
-    }
-    n
-}
-
 // One event: the account after it and the answer. A refusal hands the account back as it came in.
 // The record is copied once; the cells that the event may change are read, moved, and written back.
 pub fn step(a: Account, e: Event) -> Posted
@@ -97,26 +85,11 @@ pub fn step(a: Account, e: Event) -> Posted
     let mut b = a;
     let t = b.terms;
     let s = b.totals;
-    let number = within(e.number, 127);
-    let payment = b.payments[number as usize];
-    let usage = within(e.usage, 399) as usize;
+    let number = (e.number % 128) as usize;
+    let payment = b.payments[number];
+    let usage = (e.usage % 400) as usize;
     let day = b.days[usage];
-    let at = within(e.day, 399) as usize;
-    let stands = Move {
-        code: 0,
-        value: 0,
-        totals: s,
-        number,
-        payment,
-        day,
-        place: 0,
-        sum: b.charges[0],
-        warned: b.warned[at],
-        kind: 0,
-        from: 1,
-        to: 0,
-    };
-    let m = moves::move_of(t, stands, &b.charges, &b.marks, &b.warned, e);
+    let m = moves::move_of(t, s, payment, day, &b.charges, &b.marks, &b.warned, e);
     let totals = m.totals;
     b.totals = totals;
     let paid = m.payment;
@@ -124,7 +97,7 @@ pub fn step(a: Account, e: Event) -> Posted
     let used = m.day;
     b.days[usage] = used;
     b.charges[m.place as usize] = m.sum;
-    b.warned[at] = m.warned;
+    b.warned[(e.day % 400) as usize] = m.warned;
     marks::set(&mut b.marks, m.kind, m.from, m.to);
     Posted {
         account: b,

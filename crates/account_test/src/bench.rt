@@ -13,9 +13,9 @@ use crate::line::read;
 use crate::line::terms_of;
 use account::Account;
 use account::Posted;
-use moves::Totals;
 use ledger::Event;
 use libc::STDOUT_FILENO;
+use moves::Totals;
 
 pub(crate) struct Bench {
     account: Account,

@@ -1,5 +1,5 @@
 -- What one event does to the totals and to the cells that it may change: the head's step, without the record around it.
-use Prim.Native.Nat.{ℕ, _+_, _*_, _-_, _/_, min}
+use Prim.Native.Nat.{ℕ, _+_, _*_, _-_, _/_, _%_, min}
 use mathlib.Core.Bool.{Bool, true, false, cond, not, _&&_, _||_}
 use mathlib.Core.List.{List}
 use lib.ListN.{getD}
@@ -382,3 +382,21 @@ bySort t m charges marks warned e =
 unfoldable pub moveOf : Terms → Move → List ℕ → List ℕ → List ℕ → Event → Move
 moveOf t m charges marks warned e =
     cond (eqb (earlyCode t (m .totals) e) 0) (bySort t m charges marks warned e) (refusing m (earlyCode t (m .totals) e))
+
+-- What stands before an event: no answer yet, and the cells that it may change as they are. A number past the payments, or a day past the
+-- account's, stands at its remainder: such an event is refused, and moves nothing.
+unfoldable pub standing : Totals → Payment → Day → List ℕ → List ℕ → Event → Move
+standing s payment day charges warned e = record {
+  code = 0;
+  value = 0;
+  totals = s;
+  number = e .number % 128;
+  payment = payment;
+  day = day;
+  place = 0;
+  sum = getD charges 0 0;
+  warned = getD warned (e .day % 400) 0;
+  kind = 0;
+  from = 1;
+  to = 0;
+}

@@ -4,7 +4,7 @@ use ledger::Event;
 use terms::Terms;
 ghost use mathlib.Core.Path.{_≡_};
 ghost use Prim.Native.Nat.{_<_};
-ghost use Rattle.moves.specs.Moves.{tallied, refusing, moveOf};
+ghost use Rattle.moves.specs.Moves.{tallied, refusing, moveOf, standing};
 
 mod charges;
 mod days;
@@ -90,7 +90,7 @@ fn tally(s: Totals, day: u32) -> Totals
 }
 
 // The move of an event, of what stands before it. A refusal moves nothing.
-pub fn move_of<'a>(
+fn decided<'a>(
     t: Terms,
     m: Move,
     charges: &'a [u64; 75],
@@ -120,4 +120,36 @@ pub fn move_of<'a>(
         11 => service::connect(t, m, e),
         0 | 12..=4294967295 => refuse(m, 3),
     }
+}
+
+// The move of an event, of the totals, the payment at its number, its usage day, and the charges, marks and warnings as they stand.
+// A number past the payments, or a day past the account's, stands at its remainder, and is refused.
+pub fn move_of<'a>(
+    t: Terms,
+    s: Totals,
+    payment: Payment,
+    day: Day,
+    charges: &'a [u64; 75],
+    marks: &'a [u8; 400],
+    warned: &'a [u8; 400],
+    e: Event,
+) -> Move
+    ensures { λ r. ⌜ r ≡ moveOf t (standing s payment day (now (charges .entry)) (now (warned .entry)) e) (now (charges .entry)) (now (marks .entry)) (now (warned .entry)) e ⌝ }
+{
+    let at = (e.day % 400) as usize;
+    let stands = Move {
+        code: 0,
+        value: 0,
+        totals: s,
+        number: e.number % 128,
+        payment,
+        day,
+        place: 0,
+        sum: charges[0],
+        warned: warned[at],
+        kind: 0,
+        from: 1,
+        to: 0,
+    };
+    decided(t, stands, charges, marks, warned, e)
 }

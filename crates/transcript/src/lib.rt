@@ -89,10 +89,24 @@ fn put_events(text: &[u8], start: usize, a: Account, out: &mut [u8]) -> usize
         let read = text::read_event(text, at);
         match read {
             EventRead::Got { event, next } => {
-                let posted = account::step(b, event);
-                b = posted.account;
+                // `account::step` on b where it stands: the record is not copied.
+                let t = b.terms;
                 let s = b.totals;
-                place = put_event(out, place, n, posted.code, posted.value, s);
+                let number = (event.number % 128) as usize;
+                let payment = b.payments[number];
+                let usage = (event.usage % 400) as usize;
+                let day = b.days[usage];
+                let m = moves::move_of(t, s, payment, day, &b.charges, &b.marks, &b.warned, event);
+                let totals = m.totals;
+                b.totals = totals;
+                let paid = m.payment;
+                b.payments[m.number as usize] = paid;
+                let used = m.day;
+                b.days[usage] = used;
+                b.charges[m.place as usize] = m.sum;
+                b.warned[(event.day % 400) as usize] = m.warned;
+                marks::set(&mut b.marks, m.kind, m.from, m.to);
+                place = put_event(out, place, n, m.code, m.value, totals);
                 at = next;
                 n += 1;
             }

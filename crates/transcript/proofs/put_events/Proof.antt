@@ -5,6 +5,8 @@ use native.Mathlib.Omega.{arith}
 use lib.ListN.{length}
 use borrow.Author.Needs.{needs}
 use denote.Ref.{now}
+use Rattle.account.specs.Head.{stepOf}
+use Rattle.account.proofs.Enters.{Enters, usedAt, dayAt, entered}
 use Rattle.text.specs.Text.{EventAt}
 use Rattle.text.specs.declared.EventRead.the-variants.{Got}
 use Rattle.transcript.proofs.Turn.{Going, begins, turns, stops, ends}
@@ -21,6 +23,10 @@ abbrev μ-loop : tie.MeasureT-loop
 read-as : (c : tie.After-read Inv-loop μ-loop) → EventAt (now (c .before .before .before .before .before .before .before .args .text)) (c .before .before .before .before .loop .at) (Got (c .read .given .0 .0) (c .read .given .0 .1 .0))
 read-as c = rw (c .read .given .1) at (c .before .before .read-event .ensures)
 
+-- the move's places are there, and the record it is written into is the step's
+enters : (c : tie.After-move-of Inv-loop μ-loop) → let b = c .before .before .before .before .before .before .before .before .before .before .before .before .before .before .before .before .loop .b in let e = c .before .before .before .before .before .before .before .before .before .before .before .before .read .given .0 .0 in Enters b (usedAt e) (dayAt e) (c .move-of .result) (stepOf b e)
+enters c = rw (c .move-of .ensures) (entered _ _)
+
 loop-holds : tie.Need-loop-holds Inv-loop μ-loop
 loop-holds c = begins _ _ _ _ (c .before .before .pre .0)
 
@@ -30,22 +36,71 @@ read-event-requires c κs = search needs
 enum-known-read : tie.Need-enum-known-read Inv-loop μ-loop
 enum-known-read c = search needs
 
-step-requires : tie.Need-step-requires Inv-loop μ-loop
-step-requires c κs = search needs
+cast-number : tie.Need-cast-number Inv-loop μ-loop
+cast-number c = search needs
+
+mul-payment : tie.Need-mul-payment Inv-loop μ-loop
+mul-payment c = search needs
+
+element-copy-out-payment : tie.Need-element-copy-out-payment Inv-loop μ-loop
+element-copy-out-payment c = search needs
+
+cast-usage : tie.Need-cast-usage Inv-loop μ-loop
+cast-usage c = search needs
+
+mul-day : tie.Need-mul-day Inv-loop μ-loop
+mul-day c = search needs
+
+element-copy-out-day : tie.Need-element-copy-out-day Inv-loop μ-loop
+element-copy-out-day c = search needs
+
+move-of-requires : tie.Need-move-of-requires Inv-loop μ-loop
+move-of-requires c κs = search needs
+
+cast-paid : tie.Need-cast-paid Inv-loop μ-loop
+cast-paid c = search needs
+
+mul-paid : tie.Need-mul-paid Inv-loop μ-loop
+mul-paid c = search needs
+
+element-set-from-paid : tie.Need-element-set-from-paid Inv-loop μ-loop
+element-set-from-paid c = enters (c .before .before .before) .number
+
+mul-used : tie.Need-mul-used Inv-loop μ-loop
+mul-used c = search needs
+
+element-set-from-used : tie.Need-element-set-from-used Inv-loop μ-loop
+element-set-from-used c = search needs
+
+cast-b : tie.Need-cast-b Inv-loop μ-loop
+cast-b c = search needs
+
+mul-b : tie.Need-mul-b Inv-loop μ-loop
+mul-b c = search needs
+
+element-write-b : tie.Need-element-write-b Inv-loop μ-loop
+element-write-b c = enters (c .before .before .before .before .before) .place
+
+cast-b-2 : tie.Need-cast-b-2 Inv-loop μ-loop
+cast-b-2 c = search needs
+
+element-write-b-2 : tie.Need-element-write-b-2 Inv-loop μ-loop
+element-write-b-2 c = search needs
+
+set-requires : tie.Need-set-requires Inv-loop μ-loop
+set-requires c κs = search needs
 
 put-event-requires : tie.Need-put-event-requires Inv-loop μ-loop
-put-event-requires c κs = omega (arith, c .before .before .before .before .before .before .before .before .before .before .before .before .pre, c .before .before .before .before .before .before .before .before .before .loop .inv)
+put-event-requires c κs = omega (arith, c .before .before .before .before .before .before .before .before .before .before .before .before .before .before .before .before .before .before .before .before .before .before .before .before .before .before .before .before .pre, c .before .before .before .before .before .before .before .before .before .before .before .before .before .before .before .before .before .before .before .before .before .before .before .before .before .loop .inv)
 
 add-n : tie.Need-add-n Inv-loop μ-loop
-add-n c = omega (arith, c .before .before .before .before .before .before .before .before .before .before .before .before .before .before .before .pre, c .before .before .before .before .before .before .before .before .before .before .before .before .loop .inv)
+add-n c = omega (arith, c .before .before .before .before .before .before .before .before .before .before .before .before .before .before .before .before .before .before .before .before .before .before .before .before .before .before .before .before .before .before .before .pre, c .before .before .before .before .before .before .before .before .before .before .before .before .before .before .before .before .before .before .before .before .before .before .before .before .before .before .before .before .loop .inv)
 
 loop-less : tie.Need-loop-less Inv-loop μ-loop
-loop-less c = let e = read-as (c .before .before .before .before .before .before .before .before) in omega (arith, e .1, e .2, c .before .before .before .before .before .before .before .before .before .before .before .loop-test .taken)
+loop-less c = let e = read-as (c .before .before .before .before .before .before .before .before .before .before .before .before .before .before .before .before .before .before .before .before .before .before .before .before) in omega (arith, e .1, e .2, c .before .before .before .before .before .before .before .before .before .before .before .before .before .before .before .before .before .before .before .before .before .before .before .before .before .before .before .loop-test .taken)
 
 loop-again : tie.Need-loop-again Inv-loop μ-loop
-loop-again c = let l = c .before .before .before .before .before .before .before .before .before .before .before .before in
-    let e = read-as (c .before .before .before .before .before .before .before .before) in
-    turns _ _ _ _ _ _ _ _ _ (l .loop .inv) _ _ _ _ _ (c .before .before .before .before .before .before .before .before .before .before .before .loop-test .taken) (e .0) (e .1) (e .2) (c .before .before .before .before .before .before .step .ensures) (c .before .before .put-event .ensures .0) (c .before .before .put-event .ensures .1)
+loop-again c = let e = read-as (c .before .before .before .before .before .before .before .before .before .before .before .before .before .before .before .before .before .before .before .before .before .before .before .before) in turns _ _ _ _ _ _ _ _ _ (c .before .before .before .before .before .before .before .before .before .before .before .before .before .before .before .before .before .before .before .before .before .before .before .before .before .before .before .before .loop .inv) _ _ _ _ _ (c .before .before .before .before .before .before .before .before .before .before .before .before .before .before .before .before .before .before .before .before .before .before .before .before .before .before .before .loop-test .taken) (e .0) (e .1) (e .2) (rw (c .before .before .before .before .set .ensures) (enters (c .before .before .before .before .before .before .before .before .before .before .before .before) .same)) (c .before .before .put-event .ensures .0) (c .before .before .put-event .ensures .1)
 
 enum-told : tie.Need-enum-told Inv-loop μ-loop
 enum-told c = search needs
@@ -80,7 +135,24 @@ put-events-spec =
     loop-holds
     read-event-requires
     enum-known-read
-    step-requires
+    cast-number
+    mul-payment
+    element-copy-out-payment
+    cast-usage
+    mul-day
+    element-copy-out-day
+    move-of-requires
+    cast-paid
+    mul-paid
+    element-set-from-paid
+    mul-used
+    element-set-from-used
+    cast-b
+    mul-b
+    element-write-b
+    cast-b-2
+    element-write-b-2
+    set-requires
     put-event-requires
     add-n
     loop-less

@@ -350,123 +350,121 @@ fn main() {
     println!("seed {}, texts and lists of calls from {}: {} texts, {} lists", o.seed, o.start, o.texts, o.lists);
     let mut progress = Progress { differences: 0, file: o.progress.as_ref().and_then(|p| File::create(p).ok()) };
     let (mut told, started) = (Instant::now(), Instant::now());
-    let mut tell = |what: &str, n: u64, differences: u64| {
+    let mut tell = |texts: u64, lists: u64, differences: u64| {
         if told.elapsed().as_secs() >= 15 {
-            println!("  .. {n} {what}, {:.0} s, {differences} differences", started.elapsed().as_secs_f64());
+            println!("  .. {texts} texts, {lists} lists, {:.0} s, {differences} differences", started.elapsed().as_secs_f64());
             told = Instant::now();
         }
     };
 
-    // Texts.
+    let mut call_stats = stats::CallStats::default();
+    let mut account = Lent::new();
+    let (mut text_time, mut list_time) = (Duration::ZERO, Duration::ZERO);
     let mut stats = stats::Stats::default();
     let mut ends: BTreeMap<(&str, End), u64> = BTreeMap::new();
     let mut feeds = [0u64; 3];
     let (mut short, mut places, mut place_texts) = (0u64, 0u64, 0u64);
-    'texts: for i in o.start..o.start + o.texts {
-        let mut r = Rng::for_text(o.seed, i);
-        let (text, maker) = generate::text(&mut r);
-        let feed = match r.below(100) {
-            0..=4 => Feed::Pieces(r.index(text.len() + 1)),
-            5..=14 => Feed::File,
-            _ => Feed::Pipe,
-        };
-        let programs = r.percent(o.programs);
-        progress.at("texts", o.seed, i);
-        let run = reference::text::run(&text);
-        stats.note(&text, &run, maker);
-        let mut trouble: Vec<(&Pair, Vec<u8>, String)> = Vec::new();
-        for p in &pairs {
-            if p.is_program() && !programs {
-                continue;
-            }
-            let good = (p.print)(&run);
-            if p.is_program() {
-                if p.name == "prepay" {
-                    feeds[match feed { Feed::Pipe => 0, Feed::Pieces(_) => 1, Feed::File => 2 }] += 1;
-                }
-                let own = bench.good(p, &text, feed);
-                if own.bytes != good.as_bytes() || own.end != End::Exit(0) {
-                    println!("text {i}: {} is not what its own library prints", p.name);
-                    exit(2);
-                }
-            }
-            let got = bench.tested(p, &text, feed);
-            *ends.entry((p.name, got.end.clone())).or_default() += 1;
-            if differs(good.as_bytes(), &got) {
-                trouble.push((p, text.clone(), format!("a {maker} text")));
-            } else if let (Side::Library(printer), true) = (&p.side, r.percent(10)) {
-                // The same with a buffer that is too short.
-                let room = match printer {
-                    Printer::Transcript => head::TRANSCRIPT_ROOM,
-                    Printer::Statement => head::STATEMENT_ROOM,
-                };
-                let out_len = match r.below(5) {
-                    0 => 0,
-                    1 => good.len().min(room - 1),
-                    2 => r.index(room),
-                    _ => room - 1,
-                };
-                short += 1;
-                if let Err(what) = bench.room.borrow_mut().short(*printer, &text, out_len) {
-                    progress.differences += 1;
-                    println!("\nDIFFERENCE {} in {}: seed {} text {i}, a {maker} text: {what}", progress.differences, p.name, o.seed);
-                    save(&o, &format!("{}-seed{}-text{i}-short", p.name, o.seed), &[("txt", &text)]);
-                }
-            }
-        }
-        // Wrong bytes at every place of a short text.
-        if i == 0 || r.below(1_000) < o.places {
-            let base = if i == 0 { EXAMPLE.to_vec() } else { generate::guided(&mut r, 350, 4) };
-            let mut each: Vec<Vec<u8>> = Vec::new();
-            damage::at_every_place(&mut r, &base, |t| each.push(t));
-            place_texts += 1;
-            for t in each {
-                places += 1;
-                let run = reference::text::run(&t);
-                let found = pairs.iter().filter(|p| !p.is_program()).find(|p| {
-                    differs((p.print)(&run).as_bytes(), &bench.tested(p, &t, Feed::Pipe))
-                });
-                if let Some(p) = found {
-                    trouble.push((p, t, "a text with a wrong byte".into()));
-                    break;
-                }
-            }
-        }
-        for (p, text, what) in trouble {
-            progress.differences += 1;
-            println!("\nDIFFERENCE {} in {}: seed {} text {i}, {what}", progress.differences, p.name, o.seed);
-            let name = format!("{}-seed{}-text{i}", p.name, o.seed);
-            report(&o, &bench, p, &name, &text, feed);
-        }
+    for i in o.start..o.start + o.texts.max(o.lists) {
         if progress.differences >= o.most_failures {
             println!("\nstopped after {} differences", progress.differences);
-            break 'texts;
-        }
-        tell("texts", stats.texts, progress.differences);
-    }
-    let text_seconds = started.elapsed().as_secs_f64();
-
-    // Lists of calls.
-    let mut call_stats = stats::CallStats::default();
-    let mut account = Lent::new();
-    let lists_started = Instant::now();
-    for i in o.start..o.start + o.lists {
-        if progress.differences >= o.most_failures {
             break;
         }
-        let (list, maker) = calls::list(&mut Rng::for_list(o.seed, i));
-        progress.at("lists of calls", o.seed, i);
-        call_stats.lists += 1;
-        call_stats.calls += list.calls.len() as u64;
-        *call_stats.makers.entry(maker).or_default() += 1;
-        if let Some(found) = calls::run(&list, &mut account, Some(&mut call_stats)) {
-            progress.differences += 1;
-            println!("\nDIFFERENCE {} in calls: seed {} list {i}, a {maker} list", progress.differences, o.seed);
-            report_list(&o, &format!("calls-seed{}-list{i}", o.seed), &list, &found);
+        tell(stats.texts, call_stats.lists, progress.differences);
+        let now = Instant::now();
+        if i < o.start + o.texts {
+            let mut r = Rng::for_text(o.seed, i);
+            let (text, maker) = generate::text(&mut r);
+            let feed = match r.below(100) {
+                0..=4 => Feed::Pieces(r.index(text.len() + 1)),
+                5..=14 => Feed::File,
+                _ => Feed::Pipe,
+            };
+            let programs = r.percent(o.programs);
+            progress.at("texts", o.seed, i);
+            let run = reference::text::run(&text);
+            stats.note(&text, &run, maker);
+            let mut trouble: Vec<(&Pair, Vec<u8>, String)> = Vec::new();
+            for p in &pairs {
+                if p.is_program() && !programs {
+                    continue;
+                }
+                let good = (p.print)(&run);
+                if p.is_program() {
+                    if p.name == "prepay" {
+                        feeds[match feed { Feed::Pipe => 0, Feed::Pieces(_) => 1, Feed::File => 2 }] += 1;
+                    }
+                    let own = bench.good(p, &text, feed);
+                    if own.bytes != good.as_bytes() || own.end != End::Exit(0) {
+                        println!("text {i}: {} is not what its own library prints", p.name);
+                        exit(2);
+                    }
+                }
+                let got = bench.tested(p, &text, feed);
+                *ends.entry((p.name, got.end.clone())).or_default() += 1;
+                if differs(good.as_bytes(), &got) {
+                    trouble.push((p, text.clone(), format!("a {maker} text")));
+                } else if let (Side::Library(printer), true) = (&p.side, r.percent(10)) {
+                    // The same with a buffer that is too short.
+                    let room = match printer {
+                        Printer::Transcript => head::TRANSCRIPT_ROOM,
+                        Printer::Statement => head::STATEMENT_ROOM,
+                    };
+                    let out_len = match r.below(5) {
+                        0 => 0,
+                        1 => good.len().min(room - 1),
+                        2 => r.index(room),
+                        _ => room - 1,
+                    };
+                    short += 1;
+                    if let Err(what) = bench.room.borrow_mut().short(*printer, &text, out_len) {
+                        progress.differences += 1;
+                        println!("\nDIFFERENCE {} in {}: seed {} text {i}, a {maker} text: {what}", progress.differences, p.name, o.seed);
+                        save(&o, &format!("{}-seed{}-text{i}-short", p.name, o.seed), &[("txt", &text)]);
+                    }
+                }
+            }
+            // Wrong bytes at every place of a short text.
+            if i == 0 || r.below(1_000) < o.places {
+                let base = if i == 0 { EXAMPLE.to_vec() } else { generate::guided(&mut r, 350, 4) };
+                let mut each: Vec<Vec<u8>> = Vec::new();
+                damage::at_every_place(&mut r, &base, |t| each.push(t));
+                place_texts += 1;
+                for t in each {
+                    places += 1;
+                    let run = reference::text::run(&t);
+                    let found = pairs.iter().filter(|p| !p.is_program()).find(|p| {
+                        differs((p.print)(&run).as_bytes(), &bench.tested(p, &t, Feed::Pipe))
+                    });
+                    if let Some(p) = found {
+                        trouble.push((p, t, "a text with a wrong byte".into()));
+                        break;
+                    }
+                }
+            }
+            for (p, text, what) in trouble {
+                progress.differences += 1;
+                println!("\nDIFFERENCE {} in {}: seed {} text {i}, {what}", progress.differences, p.name, o.seed);
+                let name = format!("{}-seed{}-text{i}", p.name, o.seed);
+                report(&o, &bench, p, &name, &text, feed);
+            }
         }
-        tell("lists", call_stats.lists, progress.differences);
+        text_time += now.elapsed();
+        let now = Instant::now();
+        if i < o.start + o.lists {
+            let (list, maker) = calls::list(&mut Rng::for_list(o.seed, i));
+            progress.at("lists of calls", o.seed, i);
+            call_stats.lists += 1;
+            call_stats.calls += list.calls.len() as u64;
+            *call_stats.makers.entry(maker).or_default() += 1;
+            if let Some(found) = calls::run(&list, &mut account, Some(&mut call_stats)) {
+                progress.differences += 1;
+                println!("\nDIFFERENCE {} in calls: seed {} list {i}, a {maker} list", progress.differences, o.seed);
+                report_list(&o, &format!("calls-seed{}-list{i}", o.seed), &list, &found);
+            }
+        }
+        list_time += now.elapsed();
     }
-    let list_seconds = lists_started.elapsed().as_secs_f64();
+    let (text_seconds, list_seconds) = (text_time.as_secs_f64(), list_time.as_secs_f64());
 
     println!("\n==== texts");
     stats.print();
