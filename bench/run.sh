@@ -66,7 +66,7 @@ if command -v valgrind >/dev/null; then
     echo
     echo "Where prepay's instructions go:"
     echo
-    callgrind_annotate prepay.calls | grep -E '^ *[0-9,]+ \(' | grep -v 'PROGRAM TOTALS' | head -8 |
+    callgrind_annotate prepay.calls | grep -E '^ *[0-9,]+ \(' | grep -F ' [' | head -6 |
         sed -E 's/^ *[0-9,]+ \( *([0-9.]+%)\) +[^:]*:(.*) \[.*/    \1 \2/'
 fi
 

@@ -59,7 +59,7 @@ done
 "$work/layout" check || fail "the structs of head.h are not the library's"
 if [[ ${GOALS:-} != no ]]; then
     for crate in calendar terms ledger image head; do
-        if stale "$work/goals-$crate"; then
+        if [[ ! -d target/goals/$crate ]] || stale "$work/goals-$crate"; then
             say "rt goals $crate"
             rt goals "$crate" >"$work/goals.log" 2>&1 || { tail -20 "$work/goals.log"; exit 1; }
             touch "$work/goals-$crate"

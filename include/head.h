@@ -1,7 +1,7 @@
 /* The account of a prepay meter head: the C interface of libhead.a (crates/head; `rt staticlib head`).
  *
  * Level 1: an event text to its transcript, and to its month figures; bytes in, bytes out.
- * Level 2: one account, kept by the caller as a `prepay_account` in his own memory, opened, posted to and read.
+ * Level 2: one account, kept by the caller as a `prepay_account` in its own memory, opened, posted to and read.
  *
  * Memory. The library owns none, keeps no pointer after a call returns, and calls nothing but memcpy and memset.
  * Every pointer must point to memory of the stated size and alignment, readable, and writable where it is not const, for the time of the
@@ -10,11 +10,12 @@
  * Amounts are cents, energy is Wh, days are numbered from the opening day, 0 to 399, months from the opening month, 0 to 14.
  * Sums in a `prepay_account` are read by the calls below, not by the caller: its fields are the library's own.
  *
- * Codes (document 01): 0 accepted; 1 terms outside their limits, or no account; 2 day before the last accepted event's or past day 399;
- * 3 a field outside its limits; 4 account full (4,096 events); 5 payments full (128); 6 no such payment, or reversed before;
- * 7 usage day not before the event's day; 8 usage day already settled, or an estimate there already; 9 plan not due; 10 plan unpaid;
- * 11 service already as asked; 12 balance against it; 13 no warning of one to seven days ago; 14 barred day; 15 text breaks its form;
- * 16 buffer shorter than the row.
+ * Codes (document 01): 0 accepted; 1 terms outside their limits, or no account; 2 day before the last accepted event's, or past day 399;
+ * 3 a sort, amount, Wh, kind or mark day outside its limits, or a month without days; 4 account full (4,096 events); 5 payments full
+ * (128); 6 no such payment, or reversed before; 7 usage day not before the event's day; 8 estimate on a day not blank, or read on a metered
+ * day; 9 the plan kind's condition fails; 10 a plan while the unpaid plan is above 0; 11 service already as asked; 12 disconnect with the
+ * balance at or above the cutoff, connect with it below the connection balance; 13 no warning of one to seven days ago; 14 barred day;
+ * 15 text breaks its form, or is longer than 65,536 bytes (texts only); 16 buffer shorter than the row (rows only).
  */
 #ifndef PREPAY_HEAD_H
 #define PREPAY_HEAD_H
@@ -85,9 +86,12 @@ typedef struct {
     uint64_t value;
 } prepay_answer;
 
-/* One account, as numbers alone. Filled by prepay_open and changed by prepay_post and prepay_row only. Numbers that no call of this
- * library wrote are harmless: an event is refused by 1 and leaves them as they are, readings and figures are of no account. The four
- * bytes before `charges` are in no field and may change in any call: compare accounts, and sum their bytes, by the fields. */
+/* One account, as numbers alone. Filled by prepay_open and changed by prepay_post and prepay_row only.
+ * Other numbers never make a call read or write elsewhere, wrap or run on. Every event gets 1 and leaves them as they are where a day's
+ * state is above 2, a blank day has Wh or cost, `on` or a `reversed` is above 1, the terms are outside their limits, `count` is above 128,
+ * or credit, debit, plan or standing is above 2^60; any others are taken for an account. Readings are read off the totals in any case
+ * (balance and settled are 0 where a total is above 2^60). Figures of numbers with such a state or flag are 0, with code 3.
+ * The four bytes before `charges` are in no field and may change in a call that fills or posts: compare accounts by fields, not bytes. */
 typedef struct {
     uint64_t credit, debit, plan, standing;
     uint32_t count, events, last, on;
@@ -130,7 +134,8 @@ typedef struct {
     uint64_t cost;
 } prepay_used;
 
-/* A month's figures. The code is 3 for a month that holds none of the account's days; every figure is 0 then. */
+/* A month's figures. The code is 3 for a month that holds none of the account's days, and 1 where a charge sum of kind 1 or 2 is past
+ * 2^40, which no account has; every figure is 0 then. */
 typedef struct {
     uint8_t code;
     prepay_counted kept;     /* payments of the month's days, not reversed */
@@ -142,7 +147,8 @@ typedef struct {
     bool missing;            /* no energy, so no average */
 } prepay_summary_figures;
 
-/* Fills `account` with a fresh account. Answers 0, or 1 where the terms are outside their limits: then every event gets 1. */
+/* Fills `account` with a fresh account, whatever stood there. Answers 0, or 1 where the terms are outside their limits: then what it
+ * filled is no account, and every event gets 1. */
 uint8_t prepay_open(prepay_account *account, prepay_terms terms);
 
 /* Posts one event. A refusal leaves the account as it is. */

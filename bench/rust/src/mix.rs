@@ -152,19 +152,20 @@ pub fn row(seed: u64, n: usize) -> Vec<Event> {
     (0..n).map(|_| mix.event()).collect()
 }
 
-/// A text of at most `limit` bytes, and how many events it has.
-pub fn text(seed: u64, terms: &Terms, limit: usize) -> (Vec<u8>, usize) {
+/// A text of at most `limit` bytes, and its events.
+pub fn text(seed: u64, terms: &Terms, limit: usize) -> (Vec<u8>, Vec<Event>) {
     let mut mix = Mix::new(seed, terms, (limit / 28) as u32 + 1, 10);
     let mut out = Vec::new();
     write_terms(&mut out, terms);
-    let mut events = 0;
+    let mut events = Vec::new();
     loop {
         let before = out.len();
-        write_event(&mut out, &mix.event());
+        let event = mix.event();
+        write_event(&mut out, &event);
         if out.len() > limit {
             out.truncate(before);
             return (out, events);
         }
-        events += 1;
+        events.push(event);
     }
 }

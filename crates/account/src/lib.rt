@@ -31,7 +31,7 @@ pub struct Posted {
     pub value: u64,
 }
 
-// A fresh account, or 1 where the terms are outside their limits.
+// The record, and 0, or 1 where the terms are outside their limits.
 pub struct Opened {
     pub account: Account,
     pub code: u8,

@@ -65,7 +65,7 @@ pub struct ImagePosted {
     pub value: u64,
 }
 
-// The image of a fresh account, or 1 where the terms are outside their limits.
+// The image, and 0, or 1 where the terms are outside their limits.
 pub struct ImageOpened {
     pub image: Image,
     pub code: u8,
@@ -411,7 +411,7 @@ pub fn post(i: Image, e: Event) -> ImagePosted
     }
 }
 
-// Balance, settled amount, unpaid plan, cost of the standing estimates, service.
+// Balance, settled amount, unpaid plan, cost of the standing estimates, service: off the totals, of any numbers.
 pub fn readings(i: Image) -> Reading
     ensures { λ r. ⌜ r ≡ readingsOf i ⌝ }
 {

@@ -1,5 +1,5 @@
 // One byte of marks a day, and one of warnings: setting, testing and searching them.
-// It uses nothing else. Its promises cite specs/Marks.antt.
+// Its code uses nothing else; its proofs use the calendar's counts of days. Its promises cite specs/Marks.antt.
 ghost use mathlib.Core.Path.{_≡_};
 ghost use Prim.Native.Nat.{_+_, _-_, _≤_, _<_};
 ghost use Rattle.marks.specs.Marks.{markBit, markRange, dayBefore, businessLeft, nearOf, marked, barringOn, latestWarning, weatherNear};

@@ -79,7 +79,7 @@ estimatedBy q l n = record { wh = usageBy q whEstimated l n; cost = usageBy q co
 abbrev pub chargesOf : List ℕ → ℕ → List ℕ
 chargesOf l m = getD l (5 * m) 0 ∷ getD l (5 * m + 1) 0 ∷ getD l (5 * m + 2) 0 ∷ getD l (5 * m + 3) 0 ∷ getD l (5 * m + 4) 0 ∷ []
 
--- No list of charges takes a month's sum past 2 ^ 40: a record that has one is no account of this software's.
+-- No list of charges takes a month's sum past 2 ^ 40: a record that has one, of a kind that is in the average, is no account of this software's.
 abbrev pub most : ℕ
 most = 1099511627776
 

@@ -27,7 +27,7 @@ struct Usages {
     estimated: Used,
 }
 
-// No list of charges takes a sum past this: a record that has one is no account of this software's.
+// No list of charges takes a sum past this: a record that has one, of kind 1 or 2, is no account of this software's.
 const MOST: u64 = 1099511627776;
 
 // ---- payments

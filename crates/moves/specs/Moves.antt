@@ -18,7 +18,8 @@ use Rattle.moves.specs.declared.Payment.{Payment}
 use Rattle.moves.specs.declared.Totals.{Totals}
 use Rattle.moves.specs.declared.Move.{Move}
 
--- No list of events takes a total past 2 ^ 60: a record that has is no account of this software's, nor is one whose terms are outside their limits.
+-- No list of events takes a total past 2 ^ 60, or the payments past 128: a record that has is no account of this software's, nor is one whose
+-- terms are outside their limits.
 abbrev pub most : ℕ
 most = 1152921504606846976
 
@@ -384,7 +385,7 @@ moveOf t m charges marks warned e =
     cond (eqb (earlyCode t (m .totals) e) 0) (bySort t m charges marks warned e) (refusing m (earlyCode t (m .totals) e))
 
 -- What stands before an event: no answer yet, and the cells that it may change as they are. A number past the payments, or a day past the
--- account's, stands at its remainder: such an event is refused, and moves nothing.
+-- account's, stands at its remainder: where the sort names the field the event is refused, else the cell is written back as it stood.
 unfoldable pub standing : Totals → Payment → Day → List ℕ → List ℕ → Event → Move
 standing s payment day charges warned e = record {
   code = 0;

@@ -123,7 +123,7 @@ fn decided<'a>(
 }
 
 // The move of an event, of the totals, the payment at its number, its usage day, and the charges, marks and warnings as they stand.
-// A number past the payments, or a day past the account's, stands at its remainder, and is refused.
+// A number past the payments, or a day past the account's, stands at its remainder: a sort that names the field refuses it.
 pub fn move_of<'a>(
     t: Terms,
     s: Totals,

@@ -275,12 +275,14 @@ fn transcripts(samples: usize) {
         Box::new(|| time(|| assert_eq!(len, fast::text::transcript(black_box(&text), &mut b)))),
     ];
     let times = in_turn(samples, &mut tasks);
-    println!("\n## (c) In one process: a text of {} bytes, {events} events, to {len} bytes\n", text.len());
+    println!("\n## (c) In one process: a text of {} bytes, {} events, to {len} bytes\n", text.len(), events.len());
+    tell_mix("The mix, text", &events, &agreed(&mix::TERMS, &events));
+    println!();
     println!("| | us, median | lowest tenth | ns an event | ns a byte |\n|---|---|---|---|---|");
     for (name, t) in [("prepay_transcript", &times[0]), ("Rust transcript", &times[1])] {
         let t: Vec<f64> = t.iter().map(|t| t / 1e3).collect();
         let m = median(t.clone()) * 1e3;
-        println!("| {name} | {} | {:.1} | {:.2} |", both(&t), m / events as f64, m / text.len() as f64);
+        println!("| {name} | {} | {:.1} | {:.2} |", both(&t), m / events.len() as f64, m / text.len() as f64);
     }
     println!("\nRatio {:.1}.", ratio(&times[0], &times[1]));
 }
@@ -373,7 +375,7 @@ fn kth_event(samples: usize, mixed: &[Event]) {
 fn times(samples: usize) {
     let row = mix::row(SEED, ROW);
     let codes = agreed(&mix::TERMS, &row);
-    println!("Medians of {samples} runs each, both sides in turn in one process on one core.\n");
+    println!("{samples} runs each, both sides in turn in one process on one core; the thread's own time.\n");
     tell_mix("The mix, row", &row, &codes);
     println!("Sizes: image (prepay_account) {} bytes, Rattle record {RECORD}, Rust record {}, event {}.",
         size_of::<head::Image>(), size_of::<Account>(), size_of::<Event>());

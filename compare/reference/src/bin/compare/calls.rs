@@ -80,7 +80,11 @@ pub fn list(r: &mut Rng) -> (List, &'static str) {
     let mut with_strange = Vec::with_capacity(records.len());
     for record in records {
         if r.percent(strange) {
-            with_strange.push(if r.percent(50) { any_record(r, record.day) } else { near_record(r, record.day) });
+            with_strange.push(match r.below(5) {
+                0 | 1 => any_record(r, record.day),
+                2 | 3 => near_record(r, record.day),
+                _ => one_overgrown(r, record),
+            });
         }
         with_strange.push(record);
     }
@@ -100,20 +104,37 @@ pub fn of_text(text: &[u8]) -> (Terms, Vec<Record>) {
 }
 
 fn terms_of_any_size(r: &mut Rng) -> Terms {
-    let mut t = if r.percent(80) { generate::edge_terms(r) } else { generate::good_terms(r) };
-    for _ in 0..r.below(3) {
-        let n = r.any_u32();
-        match r.below(7) {
-            0 => t.open.year = n,
-            1 => t.open.month = n,
-            2 => t.open.day = n,
-            3 => t.price = n,
-            4 => t.connect = n,
-            5 => t.cutoff = n,
-            _ => t.share = n,
-        }
+    let good = r.percent(50);
+    let mut t = if good { generate::good_terms(r) } else { generate::edge_terms(r) };
+    for _ in 0..if good { 1 } else { r.below(3) } {
+        let field = match r.below(7) {
+            0 => &mut t.open.year,
+            1 => &mut t.open.month,
+            2 => &mut t.open.day,
+            3 => &mut t.price,
+            4 => &mut t.connect,
+            5 => &mut t.cutoff,
+            _ => &mut t.share,
+        };
+        *field = if r.percent(50) { overgrown(r, *field) } else { r.any_u32() };
     }
     t
+}
+
+/// A number that is `n` again where fewer bits are kept.
+fn overgrown(r: &mut Rng, n: u32) -> u32 {
+    n.wrapping_add(r.pick(&[1 << 8, 1 << 16, 3 << 16, 1 << 24, 1 << 31]))
+}
+
+/// The record with one field of too many bits.
+fn one_overgrown(r: &mut Rng, mut record: Record) -> Record {
+    let e = &mut record;
+    let fields = [
+        &mut e.sort, &mut e.day, &mut e.amount, &mut e.number, &mut e.kind, &mut e.usage, &mut e.wh, &mut e.from, &mut e.to,
+    ];
+    let field = fields.into_iter().nth(r.index(9)).unwrap();
+    *field = overgrown(r, *field);
+    record
 }
 
 fn any_number(r: &mut Rng) -> u32 {
