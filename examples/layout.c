@@ -187,10 +187,9 @@ static void fresh(void) {
     SAME(marks);
     SAME(warned);
     SAME(payments);
+    SAME(spare);
     SAME(charges);
-    /* What is in no field: four bytes before `charges`. */
-    size_t from = offsetof(prepay_account, payments) + sizeof a.payments;
-    printf("bytes of the account in no field: %zu, at %zu\n", offsetof(prepay_account, charges) - from, from);
+    expect(offsetof(prepay_account, charges) == offsetof(prepay_account, spare) + sizeof a.spare, "no byte of the account is in no field");
 }
 
 static uint64_t number_after(const char *text, const char *key) {

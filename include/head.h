@@ -88,10 +88,10 @@ typedef struct {
 
 /* One account, as numbers alone. Filled by prepay_open and changed by prepay_post and prepay_row only.
  * Other numbers never make a call read or write elsewhere, wrap or run on. Every event gets 1 and leaves them as they are where a day's
- * state is above 2, a blank day has Wh or cost, `on` or a `reversed` is above 1, the terms are outside their limits, `count` is above 128,
- * or credit, debit, plan or standing is above 2^60; any others are taken for an account. Readings are read off the totals in any case
- * (balance and settled are 0 where a total is above 2^60). Figures of numbers with such a state or flag are 0, with code 3.
- * The four bytes before `charges` are in no field and may change in a call that fills or posts: compare accounts by fields, not bytes. */
+ * state is above 2, a blank day has Wh or cost, `on` or a `reversed` is above 1, `spare` is not 0, the terms are outside their limits,
+ * `count` is above 128, or credit, debit, plan or standing is above 2^60; any others are taken for an account. Readings are read off the
+ * totals in any case (balance and settled are 0 where a total is above 2^60). Figures of numbers with such a state, flag or `spare` are
+ * 0, with code 3. */
 typedef struct {
     uint64_t credit, debit, plan, standing;
     uint32_t count, events, last, on;
@@ -112,6 +112,7 @@ typedef struct {
     uint8_t marks[400];
     uint8_t warned[400];
     prepay_payment payments[128];
+    uint32_t spare; /* 0 */
     uint64_t charges[75];
 } prepay_account;
 

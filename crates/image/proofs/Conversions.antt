@@ -134,10 +134,11 @@ record-back a =
 image-back : (i : Image) → isImage i ≡ true → imageOf (accountOf i) ≡ i
 unfolding isImage imageOf
 image-back i h =
-    let b = both (leb (i .totals .on) 1) (every isDayImage (i .days) && every isPaymentImage (i .payments)) h in
-    let d = both (every isDayImage (i .days)) (every isPaymentImage (i .payments)) (b .1) in
+    let b = both (leb (i .totals .on) 1) (eqb (i .spare) 0 && (every isDayImage (i .days) && every isPaymentImage (i .payments))) h in
+    let z = both (eqb (i .spare) 0) (every isDayImage (i .days) && every isPaymentImage (i .payments)) (b .1) in
+    let d = both (every isDayImage (i .days)) (every isPaymentImage (i .payments)) (z .1) in
     ap imageOf (account-is i h)
-    ∙ (λ k. record { totals = totals-pair .forth (i .totals) (b .0) k; terms = i .terms; days = days .forth (i .days) (d .0) k; marks = i .marks; warned = i .warned; payments = payments .forth (i .payments) (d .1) k; charges = i .charges })
+    ∙ (λ k. record { totals = totals-pair .forth (i .totals) (b .0) k; terms = i .terms; days = days .forth (i .days) (d .0) k; marks = i .marks; warned = i .warned; payments = payments .forth (i .payments) (d .1) k; spare = sym (eqb-true (i .spare) 0 (z .0)) k; charges = i .charges })
 
 pub inverse-holds : Inverse
 inverse-holds = record { image = image-is; record-back = record-back; image-back = image-back }

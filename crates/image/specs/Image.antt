@@ -87,7 +87,7 @@ every f (x ∷ l) = f x && every f l
 
 -- the numbers are the image of a record
 unfoldable pub isImage : Image → Bool
-isImage i = leb (i .totals .on) 1 && (every isDayImage (i .days) && every isPaymentImage (i .payments))
+isImage i = leb (i .totals .on) 1 && (eqb (i .spare) 0 && (every isDayImage (i .days) && every isPaymentImage (i .payments)))
 
 -- terms outside their limits
 abbrev pub noTerms : Terms
@@ -101,6 +101,7 @@ imageOf a = record {
   marks = a .marks;
   warned = a .warned;
   payments = map paymentImage (a .payments);
+  spare = 0;
   charges = a .charges;
 }
 

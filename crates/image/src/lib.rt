@@ -55,6 +55,8 @@ pub struct Image {
     pub marks: [u8; 400],
     pub warned: [u8; 400],
     pub payments: [PaymentImage; 128],
+    // 0; so that no byte of the image is in no field
+    pub spare: u32,
     pub charges: [u64; 75],
 }
 
@@ -292,6 +294,9 @@ fn is_image(i: Image) -> bool
     if s.on > 1 {
         return false;
     }
+    if i.spare != 0 {
+        return false;
+    }
     let days = i.days;
     if !are_day_images(days) {
         return false;
@@ -360,6 +365,7 @@ pub fn image_of(a: Account) -> Image
         marks,
         warned,
         payments: payment_images(payments),
+        spare: 0,
         charges,
     }
 }

@@ -52,6 +52,7 @@ pub struct Account {
     pub marks: [u8; 400],
     pub warned: [u8; 400],
     pub payments: [[u32; 4]; 128],
+    pub spare: u32,
     pub charges: [u64; 75],
 }
 
@@ -102,7 +103,3 @@ const _: () = assert!(
         && size_of::<Reading>() == 40
         && size_of::<Figures>() == 128
 );
-
-/// Where the account's fields stand: before and after four bytes that are in none.
-pub const FIELDS: [std::ops::Range<usize>; 2] =
-    [0..offset_of!(Account, payments) + size_of::<[[u32; 4]; 128]>(), offset_of!(Account, charges)..size_of::<Account>()];
