@@ -10,7 +10,8 @@ use Rattle.account.specs.Head.{stepOf}
 use Rattle.account.specs.declared.Account.{Account}
 use Rattle.account.specs.declared.Posted.{Posted}
 use Rattle.posting.specs.Posting.{accountAfter}
-use Rattle.text.specs.Text.{got, broken, readEvent}
+use Rattle.scanner.specs.Scanner.{got, broken}
+use Rattle.text.specs.Text.{readEvent}
 use Rattle.statement.specs.Statement.{eventsIn}
 
 events-got : (k : ℕ) (s r : List ℕ) (e : Event) → readEvent s ≡ got e r → eventsIn (suc k) s ≡ e ∷ eventsIn k r

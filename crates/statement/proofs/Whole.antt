@@ -21,7 +21,8 @@ use Rattle.account.specs.declared.Account.{Account}
 use Rattle.posting.specs.Posting.{accountAfter}
 use Rattle.months.specs.Summary.{summaryOf, Made}
 use Rattle.months.proofs.Agrees.{summary-made}
-use Rattle.text.specs.Text.{Read, got, readTerms}
+use Rattle.scanner.specs.Scanner.{Read, got}
+use Rattle.text.specs.Text.{readTerms}
 use Rattle.printing.specs.Printing.{Wrote}
 use Rattle.printing.proofs.Placed.{from-start}
 use Rattle.transcript.specs.Transcript.{termsLine}

@@ -11,7 +11,8 @@ use Rattle.ledger.specs.declared.Event.{Event}
 use Rattle.ledger.specs.declared.Summary.{Summary}
 use Rattle.ledger.specs.Ledger.{opening, ledgerAfter}
 use Rattle.ledger.specs.Months.{ledgerSummary}
-use Rattle.text.specs.Text.{Read, got, broken, readTerms, readEvent}
+use Rattle.scanner.specs.Scanner.{Read, got, broken}
+use Rattle.text.specs.Text.{readTerms, readEvent}
 use Rattle.printing.specs.Printing.{decimal}
 use Rattle.transcript.specs.Transcript.{wCode, wFeed, termsLine}
 

@@ -1,5 +1,5 @@
 // What `summary` prints for a text: its month figures, put whole into a lent buffer.
-// It uses the scanner, the account's step, the month's figures and the printing. Its promise cites specs/Statement.antt.
+// It uses the event text, the account's step, the month's figures and the printing. Its promise cites specs/Statement.antt.
 use account::Account;
 use ledger::Summary;
 use printing::put_bytes;
@@ -11,7 +11,7 @@ ghost use mathlib.Core.Path.{_≡_};
 ghost use mathlib.Core.Bool.{cond};
 ghost use Prim.Native.Nat.{ℕ, suc, _+_, _-_, _≤_};
 ghost use lib.ListN.{length, drop};
-ghost use Rattle.text.specs.Text.{got};
+ghost use Rattle.scanner.specs.Scanner.{got};
 ghost use Rattle.printing.specs.Printing.{Wrote};
 ghost use Rattle.posting.specs.Posting.{accountAfter};
 ghost use Rattle.months.specs.Summary.{summaryOf};

@@ -8,9 +8,10 @@ use native.Mathlib.Omega.{arith}
 use borrow.Author.Tests.{ne-eqb}
 use lib.ListN.{length, drop}
 use Rattle.ledger.specs.declared.Event.{Event}
-use Rattle.text.specs.Text.{Read, got, broken, then, readNumber, Field, amount, number, kind, usage, wh, from, to, keyOf, fieldsOf, stored, readFields}
-use Rattle.text.specs.Places.{NumberAt, FieldsAt}
-use Rattle.text.specs.declared.NumberRead.the-variants as number-read
+use Rattle.scanner.specs.Scanner.{Read, got, broken, then, readNumber, NumberAt}
+use Rattle.scanner.specs.declared.NumberRead.the-variants as number-read
+use Rattle.text.specs.Text.{Field, amount, number, kind, usage, wh, from, to, keyOf, fieldsOf, stored, readFields}
+use Rattle.text.specs.Places.{FieldsAt}
 use Rattle.text.specs.declared.EventRead.{EventRead}
 use Rattle.text.specs.declared.EventRead.the-variants as event-read
 

@@ -1,8 +1,4 @@
-pub mod Lines
-pub mod Digits
-pub mod Words
-pub mod Values
-pub mod Dates
+pub mod Sorts
 pub mod Fields
 pub mod Laws
 pub mod Whole

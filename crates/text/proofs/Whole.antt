@@ -6,10 +6,11 @@ use native.Mathlib.Omega.{arith}
 use lib.ListN.{length, drop, length-drop}
 use Rattle.calendar.specs.declared.Date.{Date}
 use Rattle.ledger.specs.declared.Event.{Event}
-use Rattle.text.specs.Text.{got, kDay, kOpen, kPrice, kConnect, kCutoff, kShare, readFields, fieldsOf, eventOf, readEvent, readTerms, EventAt, TermsAt}
-use Rattle.text.specs.Places.{NumberAt, DateAt, SortAt, FieldsAt}
-use Rattle.text.specs.declared.NumberRead.the-variants as number-read
-use Rattle.text.specs.declared.DateRead.the-variants as date-read
+use Rattle.scanner.specs.Scanner.{got, NumberAt, DateAt}
+use Rattle.scanner.specs.declared.NumberRead.the-variants as number-read
+use Rattle.scanner.specs.declared.DateRead.the-variants as date-read
+use Rattle.text.specs.Text.{kDay, kOpen, kPrice, kConnect, kCutoff, kShare, readFields, fieldsOf, eventOf, readEvent, readTerms, EventAt, TermsAt}
+use Rattle.text.specs.Places.{SortAt, FieldsAt}
 use Rattle.text.specs.declared.EventRead.{EventRead}
 use Rattle.text.specs.declared.EventRead.the-variants as event-read
 use Rattle.text.specs.declared.TermsRead.the-variants as terms-read

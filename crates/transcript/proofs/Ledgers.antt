@@ -19,7 +19,8 @@ use Rattle.account.specs.declared.Account.{Account}
 use Rattle.refinement.specs.Agree.{Stands, Refinement}
 use Rattle.refinement.proofs.Refines.{refinement-holds}
 use Rattle.readings.proofs.After.{balance-is, settled-reads}
-use Rattle.text.specs.Text.{Read, got, broken, readEvent}
+use Rattle.scanner.specs.Scanner.{Read, got, broken}
+use Rattle.text.specs.Text.{readEvent}
 use Rattle.transcript.specs.Transcript.{line, closing, eventLines, termsLine, byTerms}
 use Rattle.printing.specs.Printing.{Wrote}
 use Rattle.transcript.specs.Work.{headLine, headClosing, headLines}

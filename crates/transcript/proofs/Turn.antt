@@ -8,7 +8,8 @@ use Rattle.ledger.specs.declared.Event.{Event}
 use Rattle.account.specs.Head.{stepOf}
 use Rattle.account.specs.declared.Account.{Account}
 use Rattle.account.specs.declared.Posted.{Posted}
-use Rattle.text.specs.Text.{got, broken, readEvent}
+use Rattle.scanner.specs.Scanner.{got, broken}
+use Rattle.text.specs.Text.{readEvent}
 use Rattle.transcript.specs.Work.{headLine, headClosing, headLines}
 use Rattle.printing.specs.Printing.{Wrote}
 use Rattle.printing.proofs.Placed.{kept, wrote-then}

@@ -9,7 +9,8 @@ use lib.Dec.{ltb}
 use borrow.Author.Tests.{lt-ltb, le-ltb}
 use Rattle.printing.specs.Printing.{Wrote}
 use Rattle.printing.proofs.Placed.{from-start}
-use Rattle.text.specs.Text.{Read, readTerms}
+use Rattle.scanner.specs.Scanner.{Read}
+use Rattle.text.specs.Text.{readTerms}
 use Rattle.terms.specs.declared.Terms.{Terms}
 use Rattle.ledger.proofs.Cases.{decide}
 use Rattle.transcript.specs.Transcript.{transcript, termsLine, byTerms, Written}

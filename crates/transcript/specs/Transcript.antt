@@ -12,7 +12,8 @@ use Rattle.ledger.specs.declared.Event.{Event}
 use Rattle.ledger.specs.Rules.{Ledger}
 use Rattle.ledger.specs.Ledger.{Outcome, opening, ledgerStep}
 use Rattle.ledger.specs.Sums.{settled, standing}
-use Rattle.text.specs.Text.{Read, got, broken, readTerms, readEvent}
+use Rattle.scanner.specs.Scanner.{Read, got, broken}
+use Rattle.text.specs.Text.{readTerms, readEvent}
 use Rattle.printing.specs.Printing.{decimal, signed}
 
 -- ` code=`, ` value=`, ` balance=`, ` plan=`, ` estimates=`, and `n=`, `settled=`

@@ -7,7 +7,8 @@ use Rattle.moves.specs.declared.Totals.{Totals}
 use Rattle.account.specs.declared.Account.{Account}
 use Rattle.account.specs.declared.Posted.{Posted}
 use Rattle.readings.specs.Readings.{balanceOf, settledOf}
-use Rattle.text.specs.Text.{Read, got, broken, readEvent}
+use Rattle.scanner.specs.Scanner.{Read, got, broken}
+use Rattle.text.specs.Text.{readEvent}
 use Rattle.transcript.specs.Transcript.{line, lastLine}
 
 -- the line of an event, by the totals after it; the last line

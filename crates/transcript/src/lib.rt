@@ -1,5 +1,5 @@
 // What `prepay` prints for a text, put whole into a lent buffer.
-// It uses the scanner, the account's step, the readings and the printing. Its promise cites specs/Transcript.antt, and inside the crate
+// It uses the event text, the account's step, the readings and the printing. Its promise cites specs/Transcript.antt, and inside the crate
 // specs/Work.antt.
 use account::Account;
 use moves::Totals;
@@ -11,7 +11,7 @@ use text::EventRead;
 use text::TermsRead;
 ghost use Prim.Native.Nat.{suc, _+_, _-_, _≤_};
 ghost use lib.ListN.{length, drop};
-ghost use Rattle.text.specs.Text.{got};
+ghost use Rattle.scanner.specs.Scanner.{got};
 ghost use Rattle.printing.specs.Printing.{Wrote};
 ghost use Rattle.transcript.specs.Transcript.{line, lastLine, termsLine, byTerms, Written};
 ghost use Rattle.transcript.specs.Work.{headLine, headClosing, headLines};

@@ -2,7 +2,8 @@
 -- Assumes nothing.
 use mathlib.Core.Path.{refl}
 use denote.Ref.{now}
-use Rattle.text.specs.Text.{broken, TermsAt}
+use Rattle.scanner.specs.Scanner.{broken}
+use Rattle.text.specs.Text.{TermsAt}
 use Rattle.text.specs.declared.TermsRead.the-variants.{Got}
 use Rattle.statement.proofs.Whole.{nothing, too-long, by-terms}
 use borrow.Author.Needs.{needs}

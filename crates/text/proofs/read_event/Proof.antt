@@ -1,9 +1,10 @@
 -- `text::read_event` meets its contract. Assumes nothing.
 use mathlib.Core.Path.{subst}
 use borrow.Author.Needs.{needs}
+use Rattle.scanner.specs.Scanner.{NumberAt}
+use Rattle.scanner.specs.declared.NumberRead.the-variants.{Got}
 use Rattle.text.specs.Text.{kDay}
-use Rattle.text.specs.Places.{NumberAt, SortAt}
-use Rattle.text.specs.declared.NumberRead.the-variants.{Got}
+use Rattle.text.specs.Places.{SortAt}
 use Rattle.text.proofs.Whole.{no-day, no-sort, whole-event}
 use Rattle.text.proofs.read_event.Statement.{statement}
 use Rattle.text.proofs.read_event.Tie as tie

@@ -2,10 +2,10 @@
 use mathlib.Core.Path.{subst}
 use native.Mathlib.Omega.{arith}
 use borrow.Author.Needs.{needs}
+use Rattle.scanner.specs.Scanner.{ValueAt}
+use Rattle.scanner.specs.declared.ValueRead.the-variants.{Got}
 use Rattle.text.specs.Text.{kDo}
-use Rattle.text.specs.Places.{ValueAt}
-use Rattle.text.specs.declared.ValueRead.the-variants.{Got}
-use Rattle.text.proofs.Values.{no-do, no-word, sort-is}
+use Rattle.text.proofs.Sorts.{no-do, no-word, sort-is}
 use Rattle.text.proofs.read_sort.Statement.{statement}
 use Rattle.text.proofs.read_sort.Tie as tie
 

@@ -3,10 +3,10 @@ use Prim.Native.Nat.{ℕ}
 use mathlib.Core.Path.{subst}
 use mathlib.Core.List.{List}
 use borrow.Author.Needs.{needs}
+use Rattle.scanner.specs.Scanner.{NumberAt, DateAt}
+use Rattle.scanner.specs.declared.NumberRead.the-variants as number-read
+use Rattle.scanner.specs.declared.DateRead.the-variants as date-read
 use Rattle.text.specs.Text.{kOpen, kPrice, kConnect, kCutoff, kShare}
-use Rattle.text.specs.Places.{NumberAt, DateAt}
-use Rattle.text.specs.declared.NumberRead.the-variants as number-read
-use Rattle.text.specs.declared.DateRead.the-variants as date-read
 use Rattle.text.proofs.Whole.{no-open, no-price, no-connect, no-cutoff, no-share, whole-terms}
 use Rattle.text.proofs.read_terms.Statement.{statement}
 use Rattle.text.proofs.read_terms.Tie as tie

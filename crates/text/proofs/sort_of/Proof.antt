@@ -4,7 +4,8 @@ use mathlib.Core.Bool.{false}
 use mathlib.Core.List.{List}
 use Prim.Native.Nat.{ℕ}
 use borrow.Author.Needs.{needs}
-use Rattle.text.specs.Text.{same, sortOf, wPay, wReverse, wCredit, wCharge, wEstimate, wRead, wWarn, wMark, wPlan, wDisconnect, wConnect}
+use Rattle.scanner.specs.Scanner.{same}
+use Rattle.text.specs.Text.{sortOf, wPay, wReverse, wCredit, wCharge, wEstimate, wRead, wWarn, wMark, wPlan, wDisconnect, wConnect}
 use Rattle.text.proofs.sort_of.Statement.{statement}
 use Rattle.text.proofs.sort_of.Tie as tie
 

@@ -2,7 +2,8 @@
 use mathlib.Core.Path.{refl}
 use native.Mathlib.Omega.{arith}
 use denote.Ref.{now}
-use Rattle.text.specs.Text.{TermsAt, got, broken}
+use Rattle.scanner.specs.Scanner.{got, broken}
+use Rattle.text.specs.Text.{TermsAt}
 use Rattle.text.specs.declared.TermsRead.the-variants.{Got}
 use Rattle.transcript.proofs.Whole.{nothing, too-long, by-terms}
 use borrow.Author.Needs.{needs}

@@ -18,6 +18,7 @@ pub struct Image {
     marks: [u8; 400],
     warned: [u8; 400],
     payments: [[u32; 4]; 128],
+    spare: u32,
     charges: [u64; 75],
 }
 

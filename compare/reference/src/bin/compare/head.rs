@@ -37,11 +37,11 @@ impl Lent {
         self.before == [AROUND; GUARD] && self.after == [AROUND; GUARD]
     }
 
-    /// The bytes of the account's fields.
+    /// The bytes of the account.
     pub fn fields(&self) -> Vec<u8> {
         // SAFETY: as many bytes as the account has.
         let bytes = unsafe { std::slice::from_raw_parts(&self.account as *const Account as *const u8, size_of::<Account>()) };
-        FIELDS.iter().flat_map(|f| bytes[f.clone()].iter().copied()).collect()
+        bytes.to_vec()
     }
 
     pub fn open(&mut self, terms: Terms, fill: u8) -> u8 {

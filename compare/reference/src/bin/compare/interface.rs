@@ -1,6 +1,6 @@
 //! include/head.h in Rust.
 
-use std::mem::{align_of, offset_of, size_of};
+use std::mem::{align_of, size_of};
 
 pub const TRANSCRIPT_ROOM: usize = 655_360;
 pub const STATEMENT_ROOM: usize = 8_192;
