@@ -64,6 +64,7 @@ static void print(void) {
     FIELD(prepay_account, marks);
     FIELD(prepay_account, warned);
     FIELD(prepay_account, payments);
+    FIELD(prepay_account, spare);
     FIELD(prepay_account, charges);
     TYPE(prepay_reading);
     FIELD(prepay_reading, balance);
