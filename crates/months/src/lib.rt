@@ -224,7 +224,8 @@ fn figures(p: Paid, u: Usages, charges: [u64; 5]) -> Summary
     }
 }
 
-// Month m's figures, counted from the opening month. The code is 3 where none of the account's days lies in it.
+// Month m's figures, counted from the opening month. The code is 3 where none of the account's days lies in it, and 1 where a sum of
+// charges in the average is past any account's.
 pub fn summary(a: Account, m: u32) -> Summary
     ensures { λ r. ⌜ r ≡ summaryOf a m ⌝ }
     ensures { λ r. ⌜ IsLedgers a (λ (t : Terms) (l : Ledger). ledgerSummary t (l .list) m) r ⌝ }

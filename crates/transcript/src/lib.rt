@@ -1,5 +1,5 @@
 // What `prepay` prints for a text, put whole into a lent buffer.
-// It uses the event text, the account's step, the readings and the printing. Its promise cites specs/Transcript.antt, and inside the crate
+// It uses the event text, the account, the moves, the readings and the printing. Its promise cites specs/Transcript.antt, and inside the crate
 // specs/Work.antt.
 use account::Account;
 use moves::Totals;
