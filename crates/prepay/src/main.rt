@@ -6,7 +6,11 @@ use libc::STDOUT_FILENO;
 fn main() {
     let mut text = [0u8; 65537];
     let count = io::read_full(STDIN_FILENO, &mut text);
-    let mut out = [0u8; 655360];
-    let length = transcript::transcript(&text[..count], &mut out);
-    io::write_all(STDOUT_FILENO, &out[..length]);
+    let mut out = [0u8; 8192];
+    let mut progress = transcript::begin(&text[..count]);
+    while !progress.done {
+        progress = transcript::piece(&text[..count], progress, &mut out);
+        let length = progress.length;
+        io::write_all(STDOUT_FILENO, &out[..length]);
+    }
 }

@@ -1,10 +1,12 @@
 -- The lines by the head's step and the reading calls are the ledger's, for an account that stands for the ledger. Assumes nothing.
-use Prim.Native.Nat.{ℕ, zero, suc, _+_, _-_}
+use Prim.Native.Nat.{ℕ, zero, suc, _+_, _-_, _≤_}
 use mathlib.Core.Path.{_≡_, refl, sym, ap, ap₂, _∙_}
 use mathlib.Core.Bool.{true, false}
 use mathlib.Core.List.{List, [], _∷_, _++_}
 use native.Mathlib.Omega.{arith}
 use lib.ListN.{length, drop, length-drop}
+use lib.Dec.{eqb}
+use borrow.Author.Tests.{eqb-true, eqb-false}
 use Rattle.terms.specs.Terms.{validTerms, termsCode}
 use Rattle.terms.specs.declared.Terms.{Terms}
 use Rattle.ledger.specs.declared.Event.{Event}
@@ -20,11 +22,13 @@ use Rattle.refinement.specs.Agree.{Stands, Refinement}
 use Rattle.refinement.proofs.Refines.{refinement-holds}
 use Rattle.readings.proofs.After.{balance-is, settled-reads}
 use Rattle.scanner.specs.Scanner.{Read, got, broken}
-use Rattle.text.specs.Text.{readEvent}
-use Rattle.transcript.specs.Transcript.{line, closing, eventLines, termsLine, byTerms}
-use Rattle.printing.specs.Printing.{Wrote}
+use Rattle.text.specs.Text.{readTerms, readEvent}
+use Rattle.transcript.specs.Transcript.{line, closing, eventLines, termsLine, byTerms, transcript}
+use Rattle.transcript.specs.Pieces.{Begun}
+use Rattle.transcript.specs.declared.Progress.{Progress}
+use Rattle.transcript.proofs.Whole.{begun, events-left, refusal-left, by-terms}
 use Rattle.transcript.specs.Work.{headLine, headClosing, headLines}
-use Rattle.transcript.proofs.Turn.{lines-got, lines-broken}
+use Rattle.transcript.proofs.Turn.{by-read, lines-got, lines-broken}
 
 -- ---- one line
 
@@ -50,10 +54,6 @@ unfolding eventLines
 events-broken k t l n b s g = rw (g, eventLines)
 
 -- ---- all lines
-
-by-read : {X : Type 0} (x : Read Event) → ((e : Event) (r : List ℕ) → x ≡ got e r → X) → (x ≡ broken → X) → X
-by-read (got e r) g f = g e r refl
-by-read broken g f = f refl
 
 pub lines-are : (t : Terms) → validTerms t ≡ true → (k : ℕ) (a : Account) (l : Ledger) (n : ℕ) (s : List ℕ) → Stands t a l → headLines k a n s ≡ eventLines k t l n s
 unfolding headLines eventLines
@@ -85,15 +85,33 @@ pub right : (t : Terms) → termsCode t ≡ 0 → validTerms t ≡ true
 unfolding termsCode
 right t e = decide (validTerms t) (λ y. y) (λ f. absurd (let one : _≡_ {A = ℕ} 1 0 = simp f at e in omega arith))
 
-module _ (t : Terms) (o : Opened) (is : o ≡ openOf t) {b after : List ℕ} {r : ℕ} where
-  pub refused : (s : List ℕ) → (o .code ≡ 0 → ⊥) → Wrote b 0 (termsLine (o .code)) after r → Wrote b 0 (byTerms (got t s)) after r
-  refused s ne w =
+module _ (t : Terms) (o : Opened) (is : o ≡ openOf t) where
+  pub refused : (s : List ℕ) → (o .code ≡ 0 → ⊥) → termsLine (o .code) ≡ byTerms (got t s)
+  refused s ne =
       let k : o .code ≡ termsCode t = ap (λ (p : Opened). p .code) is in
       let f = wrong t (λ e. ne (k ∙ e)) in
-      simp (f .0) (rw (k ∙ f .1) at w)
+      simp (f .0) (ap termsLine (k ∙ f .1))
 
   pub opened : (text : List ℕ) (start : ℕ) → o .code ≡ 0
-      → Wrote b 0 (headLines (suc (length text - start)) (o .account) 1 (drop start text)) after r → Wrote b 0 (byTerms (got t (drop start text))) after r
-  opened text start e w =
+      → headLines (suc (length text - start)) (o .account) 1 (drop start text) ≡ byTerms (got t (drop start text))
+  opened text start e =
       let v : validTerms t ≡ true = right t (sym (ap (λ (p : Opened). p .code) is) ∙ e) in
-      simp (v, length-drop) (rw (ap (λ (p : Opened). p .account) is, lines-are t v (suc (length text - start)) (fresh t) opening 1 (drop start text) (refinement-holds t v .opens)) at w)
+      simp (v, length-drop) (rw (ap (λ (p : Opened). p .account) is) (lines-are t v (suc (length text - start)) (fresh t) opening 1 (drop start text) (refinement-holds t v .opens)))
+
+  -- before the first piece
+  pub opened-begun : (text : List ℕ) (next : ℕ) → length text ≤ 65536 → readTerms text ≡ got t (drop next text)
+      → Begun text (record { account = o .account; at = next; count = 0; code = o .code; length = 0; done = false })
+  opened-begun text next l e =
+      let p : Progress = record { account = o .account; at = next; count = 0; code = o .code; length = 0; done = false } in
+      begun text p
+      (decide (eqb (o .code) 0)
+      (λ y. let z = eqb-true (o .code) 0 y in events-left text p refl z (omega arith) ∙ opened text next z)
+      (λ n. let z = eqb-false (o .code) 0 n in refusal-left text p refl (omega arith) z ∙ refused (drop next text) z)
+      ∙ sym (by-terms text (got t (drop next text)) l e))
+      refl refl (λ z. l)
+
+-- terms that break their form
+pub malformed-begun : (text : List ℕ) (p : Progress) → (p .code ≡ 15) × (p .done ≡ false) × (p .count ≡ 0) × (p .length ≡ 0) → transcript text ≡ termsLine 15 → Begun text p
+malformed-begun text p m e =
+    let n : p .code ≡ 0 → ⊥ = λ z. omega (arith, z, m .0) in
+    begun text p (refusal-left text p (m .1) (omega (arith, m .2)) n ∙ ap termsLine (m .0) ∙ sym e) (m .3) (m .1) (λ z. absurd (n z))

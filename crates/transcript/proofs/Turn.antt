@@ -1,18 +1,23 @@
--- The loop over the events: what it keeps, and one turn. Assumes nothing.
-use Prim.Native.Nat.{ℕ, suc, _+_, _*_, _-_, _≤_, _<_}
-use mathlib.Core.Path.{_≡_, refl, _∙_}
-use mathlib.Core.List.{List, [], _∷_, _++_}
+-- The loop over the events: what it keeps, one turn, and how it ends. Assumes nothing.
+use Prim.Native.Nat.{ℕ, zero, suc, _+_, _*_, _-_, _≤_, _<_}
+use mathlib.Core.Path.{_≡_, refl, sym, ap, _∙_}
+use mathlib.Core.Bool.{true, false, true≢false}
+use mathlib.Core.List.{List, [], _∷_, _++_, append-assoc, append-nil}
 use native.Mathlib.Omega.{arith}
 use lib.ListN.{length, drop, length-drop}
 use Rattle.ledger.specs.declared.Event.{Event}
 use Rattle.account.specs.Head.{stepOf}
 use Rattle.account.specs.declared.Account.{Account}
 use Rattle.account.specs.declared.Posted.{Posted}
-use Rattle.scanner.specs.Scanner.{got, broken}
+use Rattle.scanner.specs.Scanner.{Read, got, broken}
 use Rattle.text.specs.Text.{readEvent}
-use Rattle.transcript.specs.Work.{headLine, headClosing, headLines}
+use Rattle.text.proofs.Laws.{event-progress}
 use Rattle.printing.specs.Printing.{Wrote}
 use Rattle.printing.proofs.Placed.{kept, wrote-then}
+use Rattle.transcript.specs.Work.{headLine, headClosing, headLines}
+use Rattle.transcript.specs.Pieces.{linesFrom, rest, Piece}
+use Rattle.transcript.specs.declared.Progress.{Progress}
+use Rattle.transcript.proofs.Whole.{nothing-written, piece-of, events-left}
 
 -- ---- the lines of what is left, by what stands there
 
@@ -33,57 +38,109 @@ unfolding headLines
 lines-end k a n [] h = refl
 lines-end k a n (b ∷ s) h = absurd (omega arith)
 
+pub by-read : {X : Type 0} (x : Read Event) → ((e : Event) (r : List ℕ) → x ≡ got e r → X) → (x ≡ broken → X) → X
+by-read (got e r) g f = g e r refl
+by-read broken g f = f refl
+
+-- any number above that of the bytes will do
+enough : (k j : ℕ) (a : Account) (n : ℕ) (s : List ℕ) → length s < k → length s < j → headLines k a n s ≡ headLines j a n s
+unfolding headLines
+enough zero j a n s h g = absurd (omega arith)
+enough (suc k) zero a n s h g = absurd (omega arith)
+enough (suc k) (suc j) a n [] h g = refl
+enough (suc k) (suc j) a n (b ∷ s) h g = by-read (readEvent (b ∷ s))
+    (λ e r q.
+    let far = event-progress (b ∷ s) e r q in
+    lines-got k a n (b ∷ s) r e (omega arith) q
+    ∙ ap (λ (x : List ℕ). headLine n (stepOf a e .code) (stepOf a e .value) (stepOf a e .account .totals) ++ x)
+    (enough k j (stepOf a e .account) (n + 1) r (omega (arith, far)) (omega (arith, far)))
+    ∙ sym (lines-got j a n (b ∷ s) r e (omega arith) q))
+    (λ q. lines-broken k a n (b ∷ s) (omega arith) q ∙ sym (lines-broken j a n (b ∷ s) (omega arith) q))
+
 -- ---- what the loop keeps
 
--- the lines of the events from place `at` on, where event n stands
-abbrev left : List ℕ → ℕ → Account → ℕ → ℕ → List ℕ
-left text start b at n = headLines (suc (length text + 1 - (start + n))) b n (drop at text)
-
--- all of them
-abbrev whole : List ℕ → ℕ → Account → List ℕ
-whole text start a = headLines (suc (length text - start)) a 1 (drop start text)
-
--- Whatever writes what is left writes the whole.
-pub record Going (text : List ℕ) (start : ℕ) (a : Account) (first out : List ℕ) (b : Account) (at n place : ℕ) : Type 0 where
-  pub counted : start + n ≤ at + 1
-  pub inside : at ≤ length text
+-- The lines written so far, and those left, are those that were left before the piece.
+pub record Going (text : List ℕ) (a : Account) (start k : ℕ) (first out : List ℕ) (b : Account) (at count place : ℕ) : Type 0 where
+  pub counted : count ≤ at
+  pub from : start ≤ at
   pub low : place ≤ 9 * at
-  pub sized : length out ≡ length first
-  pub goal : (last : List ℕ) (q : ℕ) → Wrote out place (left text start b at n) last q → Wrote first 0 (whole text start a) last q
+  pub room : place + 60 ≤ length out
+  pub moved : 0 < place → (start < at) × (at ≤ length text)
+  pub lines : List ℕ
+  pub wrote : Wrote first 0 lines out place
+  pub goal : linesFrom text a start k ≡ lines ++ linesFrom text b at count
 
-pub begins : (text : List ℕ) (start : ℕ) (a : Account) (out : List ℕ) → start ≤ length text → Going text start a out out a start 1 0
-begins text start a out h = record {
-  counted = omega arith;
-  inside = h;
+pub begins : (text : List ℕ) (a : Account) (at count : ℕ) (first : List ℕ) → 174 ≤ length first → count ≤ at → Going text a at count first first a at count 0
+begins text a at count first roomy h = record {
+  counted = h;
+  from = omega arith;
   low = omega arith;
-  sized = refl;
-  goal = λ last q w. let e : length text + 1 - (start + 1) ≡ length text - start = omega arith in rw e at w;
+  room = omega arith;
+  moved = λ z. absurd (omega arith);
+  lines = [];
+  wrote = nothing-written first;
+  goal = refl;
 }
 
-module _ (text : List ℕ) (start : ℕ) (a : Account) (first out : List ℕ) (b : Account) (at n place : ℕ) (g : Going text start a first out b at n place) where
-  pub turns : (e : Event) (next : ℕ) (p : Posted) (after : List ℕ) (r : ℕ)
-      → at < length text → readEvent (drop at text) ≡ got e (drop next text) → at + 14 ≤ next → next ≤ length text
-      → p ≡ stepOf b e → Wrote out place (headLine n (p .code) (p .value) (p .account .totals)) after r → r ≤ place + 114
-      → Going text start a first after (p .account) next (n + 1) r
-  turns e next p after r h g′ far within ep w short = record {
+module _ (text : List ℕ) (a : Account) (start k : ℕ) (first out : List ℕ) (b : Account) (at count place : ℕ) (g : Going text a start k first out b at count place) where
+  pub sized : length out ≡ length first
+  sized = kept (g .wrote)
+
+  -- more lines written, and what is left then
+  then-left : (more left : List ℕ) → linesFrom text b at count ≡ more ++ left → linesFrom text a start k ≡ (g .lines ++ more) ++ left
+  then-left more left e = g .goal ∙ ap (λ (x : List ℕ). g .lines ++ x) e ∙ sym (append-assoc (g .lines) more left)
+
+  some : at < length text → 0 < length (drop at text)
+  some h = rw (length-drop at text) (omega arith)
+
+  pub turns : (e : Event) (next : ℕ) (q : Posted) (after : List ℕ) (r : ℕ) → at < length text
+      → readEvent (drop at text) ≡ got e (drop next text) → at + 14 ≤ next → next ≤ length text → 174 ≤ length out - place
+      → q ≡ stepOf b e → Wrote out place (headLine (count + 1) (q .code) (q .value) (q .account .totals)) after r → r ≤ place + 114
+      → Going text a start k first after (q .account) next (count + 1) r
+  turns e next q after r h g′ far within roomy eq w short = record {
     counted = omega (arith, g .counted);
-    inside = within;
+    from = omega (arith, g .from);
     low = omega (arith, g .low);
-    sized = kept w ∙ g .sized;
-    goal = λ last q v. g .goal last q (rw line-by-line (wrote-then w v));
+    room = omega (arith, kept w);
+    moved = λ z. (omega (arith, g .from), within);
+    lines = g .lines ++ headLine (count + 1) (q .code) (q .value) (q .account .totals);
+    wrote = wrote-then (g .wrote) w;
+    goal = then-left (headLine (count + 1) (q .code) (q .value) (q .account .totals)) (linesFrom text (q .account) next (count + 1)) line-by-line;
   }
     where
-      fuel : length text + 1 - (start + n) ≡ suc (length text + 1 - (start + (n + 1)))
-      fuel = omega (arith, g .counted)
+      line-by-line : linesFrom text b at count ≡ headLine (count + 1) (q .code) (q .value) (q .account .totals) ++ linesFrom text (q .account) next (count + 1)
+      line-by-line = rw eq
+          (lines-got (length text - at) b (count + 1) (drop at text) (drop next text) e (some h) g′
+          ∙ ap (λ (x : List ℕ). headLine (count + 1) (stepOf b e .code) (stepOf b e .value) (stepOf b e .account .totals) ++ x)
+          (enough (length text - at) (suc (length text - next)) (stepOf b e .account) (count + 1 + 1) (drop next text) (rw (length-drop next text) (omega arith)) (rw (length-drop next text) (omega arith))))
 
-      line-by-line : left text start b at n ≡ headLine n (p .code) (p .value) (p .account .totals) ++ left text start (p .account) next (n + 1)
-      line-by-line = rw (ep, fuel) (lines-got (suc (length text + 1 - (start + (n + 1)))) b n (drop at text) (drop next text) e (rw (length-drop at text) (omega arith)) g′)
+-- ---- how it ends
 
-  pub stops : (after last : List ℕ) (r q : ℕ) → at < length text → readEvent (drop at text) ≡ broken
-      → Wrote out place (headLine n 15 0 (b .totals)) after r → Wrote after r (headClosing (b .totals)) last q
-      → Wrote first 0 (whole text start a) last q
-  stops after last r q h g′ w v =
-      g .goal last q (rw (lines-broken (length text + 1 - (start + n)) b n (drop at text) (rw (length-drop at text) (omega arith)) g′) (wrote-then w v))
+module _ (text : List ℕ) (p : Progress) (first out : List ℕ) (b : Account) (at count place : ℕ) (g : Going text (p .account) (p .at) (p .count) first out b at count place)
+    (d : p .done ≡ false) (c : p .code ≡ 0) (counted : p .count ≤ p .at) (roomy : 174 ≤ length first) where
+  left-then : (more left : List ℕ) → linesFrom text b at count ≡ more ++ left → rest text p ≡ (g .lines ++ more) ++ left
+  left-then more left e = events-left text p d c counted ∙ then-left text (p .account) (p .at) (p .count) first out b at count place g more left e
 
-  pub ends : (last : List ℕ) (q : ℕ) → length text ≤ at → Wrote out place (headClosing (b .totals)) last q → Wrote first 0 (whole text start a) last q
-  ends last q h w = g .goal last q (rw (lines-end (length text + 1 - (start + n)) b n (drop at text) (rw (length-drop at text) (omega arith))) w)
+  -- there is no room for another line
+  pub pauses : length out - place < 174 → Piece text p first out (record { account = b; at = at; count = count; code = 0; length = place; done = false })
+  pauses h =
+      let same : length out ≡ length first = kept (g .wrote) in
+      let far = g .moved (omega arith) in
+      let q : Progress = record { account = b; at = at; count = count; code = 0; length = place; done = false } in
+      piece-of text p q (g .wrote) roomy
+      (events-left text p d c counted ∙ g .goal ∙ ap (λ (x : List ℕ). g .lines ++ x) (sym (events-left text q refl refl (g .counted))))
+      (λ f. (c, far .0, far .1, omega arith, g .low))
+
+  -- the last piece
+  module _ (after more : List ℕ) (r : ℕ) (w : Wrote out place more after r) (e : linesFrom text b at count ≡ more) where
+    closes : Piece text p first after (record { account = b; at = at; count = count; code = 0; length = r; done = true })
+    closes = piece-of text p (record { account = b; at = at; count = count; code = 0; length = r; done = true }) (wrote-then (g .wrote) w) roomy (left-then more [] (e ∙ sym (append-nil more))) (λ f. absurd (true≢false f))
+
+  pub stops : (mid after : List ℕ) (r q : ℕ) → at < length text → readEvent (drop at text) ≡ broken
+      → Wrote out place (headLine (count + 1) 15 0 (b .totals)) mid r → Wrote mid r (headClosing (b .totals)) after q
+      → Piece text p first after (record { account = b; at = at; count = count; code = 0; length = q; done = true })
+  stops mid after r q h g′ w v = closes after _ q (wrote-then w v) (lines-broken (length text - at) b (count + 1) (drop at text) (rw (length-drop at text) (omega arith)) g′)
+
+  pub ends : (after : List ℕ) (q : ℕ) → length text ≤ at → Wrote out place (headClosing (b .totals)) after q
+      → Piece text p first after (record { account = b; at = at; count = count; code = 0; length = q; done = true })
+  ends after q h w = closes after _ q w (lines-end (length text - at) b (count + 1) (drop at text) (rw (length-drop at text) (omega arith)))

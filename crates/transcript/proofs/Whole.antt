@@ -1,43 +1,139 @@
--- What stands in the buffer from its start is what the call leaves. Assumes nothing.
-use Prim.Native.Nat.{ℕ, _+_, _≤_, _<_}
-use mathlib.Core.Path.{_≡_, sym, ap, _∙_}
-use mathlib.Core.List.{List, _++_}
-use native.Mathlib.Nat.{zero-add}
+-- A piece at the start of the buffer, all pieces together, and the whole transcript. Assumes nothing.
+use Prim.Native.Nat.{ℕ, suc, _+_, _*_, _-_, _≤_, _<_}
+use mathlib.Core.Path.{_≡_, refl, sym, ap, ap₂, _∙_}
+use mathlib.Core.Bool.{true, false, cond, true≢false}
+use mathlib.Core.List.{List, [], _++_, append-nil}
 use native.Mathlib.Omega.{arith}
-use lib.ListN.{length, drop, length-append}
-use lib.Dec.{ltb}
-use borrow.Author.Tests.{lt-ltb, le-ltb}
-use Rattle.printing.specs.Printing.{Wrote}
+use lib.ListN.{length, take, drop, take-append-drop}
+use lib.Seq.{length-take-le, take-at, drop-at}
+use lib.Dec.{eqb, ltb}
+use borrow.Author.Tests.{lt-ltb, le-ltb, le-leb, lt-leb, ne-eqb}
+use Rattle.printing.specs.Printing.{over, Wrote}
 use Rattle.printing.proofs.Placed.{from-start}
+use Rattle.moves.specs.declared.Totals.{Totals}
+use Rattle.terms.specs.declared.Terms.{Terms}
 use Rattle.scanner.specs.Scanner.{Read}
 use Rattle.text.specs.Text.{readTerms}
-use Rattle.terms.specs.declared.Terms.{Terms}
 use Rattle.ledger.proofs.Cases.{decide}
+use Rattle.readings.specs.Readings.{balanceOf}
 use Rattle.transcript.specs.Transcript.{transcript, termsLine, byTerms, Written}
+use Rattle.transcript.specs.Work.{headLine}
+use Rattle.transcript.specs.Pieces.{linesFrom, goes, rest, Piece, Printed, last, then, Begun}
+use Rattle.transcript.specs.declared.Progress.{Progress}
+
+-- ---- what is still to be printed
+
+pub events-left : (s : List ℕ) (p : Progress) → p .done ≡ false → p .code ≡ 0 → p .count ≤ p .at → rest s p ≡ linesFrom s (p .account) (p .at) (p .count)
+events-left s p d c h = simp (d, c, le-leb (p .count) (p .at) h)
+
+-- terms that are malformed or refused
+pub refusal-left : (s : List ℕ) (p : Progress) → p .done ≡ false → p .count ≤ p .at → (p .code ≡ 0 → ⊥) → rest s p ≡ termsLine (p .code)
+refusal-left s p d h n = simp (d, le-leb (p .count) (p .at) h, ne-eqb (p .code) 0 n)
+
+-- more events than bytes
+pub none-left : (s : List ℕ) (p : Progress) → p .done ≡ false → p .at < p .count → rest s p ≡ []
+none-left s p d h = simp (d, lt-leb (p .count) (p .at) h)
+
+-- ---- one piece
+
+-- bytes written from the start of a buffer on stand there, and those past them are as they were
+module _ {b x after : List ℕ} {r : ℕ} (w : Wrote b 0 x after r) where
+  stands : after ≡ x ++ drop (length x) b
+  stands = w .buffer ∙ from-start b x
+
+  counts : length x ≡ r
+  counts = omega (arith, w .next)
+
+  front : take r after ≡ x
+  front = ap (take r) stands ∙ take-at x (drop (length x) b) r counts
+
+  past : drop r after ≡ drop r b
+  past = ap (drop r) stands ∙ drop-at x (drop (length x) b) r counts ∙ ap (λ (k : ℕ). drop k b) counts
+
+-- the totals of no account
+abbrev pub no-totals : Totals
+no-totals = record { credit = 0; debit = 0; plan = 0; standing = 0; count = 0; events = 0; last = 0; on = false }
+
+pub nothing-written : (b : List ℕ) → Wrote b 0 [] b 0
+unfolding over
+nothing-written b = record { buffer = refl; next = refl; room = omega arith }
+
+pub piece-of : (s : List ℕ) (p q : Progress) {b x after : List ℕ} → Wrote b 0 x after (q .length) → 174 ≤ length b → rest s p ≡ x ++ rest s q
+    → (q .done ≡ false → (p .code ≡ 0) × (p .at < q .at) × (q .at ≤ length s) × (length b < q .length + 174) × (q .length ≤ 9 * q .at))
+    → Piece s p b after q
+piece-of s p q {b} {x} {after} w roomy e m = record {
+  lines = e ∙ ap (λ (l : List ℕ). l ++ rest s q) (sym (front w));
+  others = past w;
+  inside = omega (arith, w .room, w .next);
+  short = λ h. absurd (omega arith);
+  more = λ h. m;
+}
+
+-- a buffer that is too short, or nothing left
+pub no-piece : (s b : List ℕ) (p q : Progress) → q .length ≡ 0 → rest s p ≡ rest s q → (174 ≤ length b → q .done ≡ true) → Piece s p b b q
+no-piece s b p q z e d = record {
+  lines = rw z e;
+  others = refl;
+  inside = omega (arith, z);
+  short = λ h. z;
+  more = λ h f. absurd (true≢false (sym (d h) ∙ f));
+}
+
+-- the line of terms that are malformed or refused
+pub refused : (s : List ℕ) (p q : Progress) {b after : List ℕ} → p .done ≡ false → p .count ≤ p .at → (p .code ≡ 0 → ⊥) → 174 ≤ length b → q .done ≡ true
+    → Wrote b 0 (headLine 0 (p .code) 0 no-totals) after (q .length) → Piece s p b after q
+unfolding balanceOf
+refused s p q d h n roomy f w =
+    piece-of s p q w roomy
+    (refusal-left s p d h n ∙ sym (append-nil (termsLine (p .code))) ∙ ap (λ (x : List ℕ). termsLine (p .code) ++ x) (sym (simp f)))
+    (λ g. absurd (true≢false (sym f ∙ g)))
+
+-- ---- all pieces
+
+printed : (s : List ℕ) (p : Progress) (w : List ℕ) → Printed s p w → w ≡ rest s p
+printed s _ _ (last p h) = sym (simp h)
+printed s _ _ (then p q before after v m more) = ap (λ (x : List ℕ). take (q .length) after ++ x) (printed s q v more) ∙ sym (m .lines)
+
+pub begun : (s : List ℕ) (p : Progress) → rest s p ≡ transcript s → p .length ≡ 0 → p .done ≡ false → (p .code ≡ 0 → length s ≤ 65536) → Begun s p
+begun s p e z d l = record { all = e; pieces = λ w x. printed s p w x ∙ e; none = z; begun = d; long = l }
+
+pub too-long : (s : List ℕ) → 65536 < length s → transcript s ≡ termsLine 15
+unfolding transcript
+too-long s l = simp (lt-ltb 65536 (length s) l)
+
+pub by-terms : (s : List ℕ) (q : Read Terms) → length s ≤ 65536 → readTerms s ≡ q → transcript s ≡ byTerms q
+unfolding transcript
+by-terms s q l e = simp (le-ltb 65536 (length s) l, e)
+
+-- ---- the whole
 
 pub nothing : (s before : List ℕ) → length before < 655360 → Written s before before 0
 nothing s before h = record { answer = simp (lt-ltb (length before) 655360 h); bytes = simp (lt-ltb (length before) 655360 h) }
 
-module _ (s before x after : List ℕ) (r : ℕ) (h : 655360 ≤ length before) (w : Wrote before 0 x after r) where
-  by-lines : transcript s ≡ x → Written s before after r
-  by-lines e = record {
-    answer = simp (le-ltb (length before) 655360 h) (w .next ∙ zero-add (length x) ∙ ap length (sym e));
-    bytes = simp (le-ltb (length before) 655360 h) (w .buffer ∙ from-start before x ∙ ap (λ (y : List ℕ). y ++ drop (length y) before) (sym e));
+module _ (s before after : List ℕ) (p q : Progress) (begins : Begun s p) (m : Piece s p before after q) (roomy : 655360 ≤ length before) (sized : length after ≡ length before) where
+  over-at-once : q .done ≡ true
+  over-at-once = decide (q .done) (λ t. t) (λ f. let g = m .more (omega arith) f in absurd (omega (arith, begins .long (g .0), g .1)))
+
+  all : transcript s ≡ take (q .length) after
+  all = sym (begins .all) ∙ m .lines ∙ ap (λ (x : List ℕ). take (q .length) after ++ x) (simp over-at-once) ∙ append-nil (take (q .length) after)
+
+  long : q .length ≡ length (transcript s)
+  long = sym (ap length all ∙ length-take-le (q .length) after (omega (arith, m .inside)))
+
+  pub whole : Written s before after (q .length)
+  whole = record {
+    answer = simp (le-ltb (length before) 655360 roomy) long;
+    bytes = simp (le-ltb (length before) 655360 roomy)
+        (sym (take-append-drop (q .length) after) ∙ ap₂ _++_ (sym all) (m .others ∙ ap (λ (k : ℕ). drop k before) long));
   }
 
-  pub too-long : 65536 < length s → x ≡ termsLine 15 → Written s before after r
-  unfolding transcript
-  too-long l e = by-lines (simp (lt-ltb 65536 (length s) l) (sym e))
+-- ---- piece after piece comes to an end
 
-  pub by-terms : (q : Read Terms) → length s ≤ 65536 → readTerms s ≡ q → x ≡ byTerms q → Written s before after r
-  unfolding transcript
-  by-terms q l e b = by-lines (simp (le-ltb 65536 (length s) l, e) (sym b))
+-- the bytes that are still to be read, and one more; none after the last piece
+abbrev pub unread : List ℕ → Progress → ℕ
+unread s p = cond (p .done) 0 (suc (length s - p .at))
 
--- the answer counts bytes of the buffer
-pub within : (s before after : List ℕ) (r : ℕ) → Written s before after r → r ≤ length after
-within s before after r w = decide (ltb (length before) 655360)
-    (λ t. let none : r ≡ 0 = simp t at (w .answer) in omega arith)
-    (λ f.
-    let all : r ≡ length (transcript s) = simp f at (w .answer) in
-    let bytes : after ≡ transcript s ++ drop (length (transcript s)) before = simp f at (w .bytes) in
-    omega (arith, simp length-append at (ap length bytes)))
+pub reads-on : (s before after : List ℕ) (p q : Progress) → 174 ≤ length before → Piece s p before after q → p .done ≡ false → unread s q < unread s p
+reads-on s before after p q h m d = decide (q .done)
+    (λ t. simp (d, t) (omega arith))
+    (λ f. let g = m .more h f in simp (d, f) (omega (arith, g .1, g .2)))

@@ -1,7 +1,8 @@
-// What `prepay` prints for a text, put whole into a lent buffer.
-// It uses the event text, the account, the moves, the readings and the printing. Its promise cites specs/Transcript.antt, and inside the crate
-// specs/Work.antt.
+// What `prepay` prints for a text: whole into a lent buffer, or in pieces through a small one.
+// It uses the event text, the account, the moves, the readings and the printing. Its promises cite specs/Transcript.antt and
+// specs/Pieces.antt, and inside the crate specs/Work.antt.
 use account::Account;
+use calendar::Date;
 use moves::Totals;
 use printing::put_bytes;
 use printing::put_field;
@@ -9,29 +10,39 @@ use printing::put_sum;
 use terms::Terms;
 use text::EventRead;
 use text::TermsRead;
-ghost use Prim.Native.Nat.{suc, _+_, _-_, _≤_};
-ghost use lib.ListN.{length, drop};
-ghost use Rattle.scanner.specs.Scanner.{got};
+ghost use mathlib.Core.Path.{_≡_};
+ghost use mathlib.Core.Bool.{false};
+ghost use Prim.Native.Nat.{_+_, _≤_};
+ghost use lib.ListN.{length};
 ghost use Rattle.printing.specs.Printing.{Wrote};
-ghost use Rattle.transcript.specs.Transcript.{line, lastLine, termsLine, byTerms, Written};
-ghost use Rattle.transcript.specs.Work.{headLine, headClosing, headLines};
+ghost use Rattle.transcript.specs.Transcript.{Written};
+ghost use Rattle.transcript.specs.Work.{headLine, headClosing};
+ghost use Rattle.transcript.specs.Pieces.{Begun, Piece};
+
+// How far a text is printed.
+pub struct Progress {
+    // the account after the events printed
+    pub account: Account,
+    // where the next event starts, and how many were printed
+    pub at: usize,
+    pub count: u64,
+    // 0, or the code of terms that are malformed or refused
+    pub code: u8,
+    // how many bytes the last piece has, and whether no other follows
+    pub length: usize,
+    pub done: bool,
+}
 
 // ---- one line
 
-// A line of 114 bytes at most.
-fn put_line(
-    out: &mut [u8],
-    at: usize,
-    n: u64,
-    code: u8,
-    value: u64,
-    balance: i64,
-    plan: u64,
-) -> usize
+// The line of an event, by the totals after it: 114 bytes at most.
+fn put_event(out: &mut [u8], at: usize, n: u64, code: u8, value: u64, s: Totals) -> usize
     requires { ⌜ at + 114 ≤ length (now out) ⌝ }
-    ensures { λ r. ⌜ Wrote (now (out .entry)) at (line n code value balance plan) (now (out .exit)) r ⌝ }
+    ensures { λ r. ⌜ Wrote (now (out .entry)) at (headLine n code value s) (now (out .exit)) r ⌝ }
     ensures { λ r. ⌜ r ≤ at + 114 ⌝ }
 {
+    let balance = readings::balance(s);
+    let plan = readings::plan(s);
     let after_n = put_field(out, at, b"n=", n);
     let after_code = put_field(out, after_n, b" code=", code as u64);
     let after_value = put_field(out, after_code, b" value=", value);
@@ -40,52 +51,40 @@ fn put_line(
     put_bytes(out, after_plan, b"\n")
 }
 
-fn put_last(out: &mut [u8], at: usize, sum: i64, cost: u64) -> usize
-    requires { ⌜ at + 60 ≤ length (now out) ⌝ }
-    ensures { λ r. ⌜ Wrote (now (out .entry)) at (lastLine sum cost) (now (out .exit)) r ⌝ }
-{
-    let after_sum = put_sum(out, at, b"settled=", sum);
-    let after_cost = put_field(out, after_sum, b" estimates=", cost);
-    put_bytes(out, after_cost, b"\n")
-}
-
-// The line of an event, by the totals after it.
-fn put_event(out: &mut [u8], at: usize, n: u64, code: u8, value: u64, s: Totals) -> usize
-    requires { ⌜ at + 114 ≤ length (now out) ⌝ }
-    ensures { λ r. ⌜ Wrote (now (out .entry)) at (headLine n code value s) (now (out .exit)) r ⌝ }
-    ensures { λ r. ⌜ r ≤ at + 114 ⌝ }
-{
-    put_line(
-        out,
-        at,
-        n,
-        code,
-        value,
-        readings::balance(s),
-        readings::plan(s),
-    )
-}
-
-// The last line, by the totals.
+// The last line, by the totals: 60 bytes at most.
 fn put_closing(out: &mut [u8], at: usize, s: Totals) -> usize
     requires { ⌜ at + 60 ≤ length (now out) ⌝ }
     ensures { λ r. ⌜ Wrote (now (out .entry)) at (headClosing s) (now (out .exit)) r ⌝ }
 {
-    put_last(out, at, readings::settled(s), readings::estimates(s))
+    let settled = readings::settled(s);
+    let estimates = readings::estimates(s);
+    let after_sum = put_sum(out, at, b"settled=", settled);
+    let after_cost = put_field(out, after_sum, b" estimates=", estimates);
+    put_bytes(out, after_cost, b"\n")
 }
 
 // ---- the text
 
-// The lines of the events from a place of the text on, and the last line.
-fn put_events(text: &[u8], start: usize, a: Account, out: &mut [u8]) -> usize
-    requires { ⌜ (start ≤ length (now text)) × (length (now text) ≤ 65536) × (655360 ≤ length (now out)) ⌝ }
-    ensures { λ r. ⌜ Wrote (now (out .entry)) 0 (headLines (suc (length (now (text .entry)) - start)) a 1 (drop start (now (text .entry)))) (now (out .exit)) r ⌝ }
+// The lines of the events, while there is room for one and for the last line, and the last line.
+fn put_events(text: &[u8], p: Progress, out: &mut [u8]) -> Progress
+    requires { ⌜ (p .done ≡ false) × (p .code ≡ 0) × (p .count ≤ p .at) × (174 ≤ length (now out)) ⌝ }
+    ensures { λ q. ⌜ Piece (now (text .entry)) p (now (out .entry)) (now (out .exit)) q ⌝ }
 {
-    let mut b = a;
-    let mut at = start;
-    let mut n: u64 = 1;
+    let mut b = p.account;
+    let mut at = p.at;
+    let mut count = p.count;
     let mut place: usize = 0;
     while at < text.len() {
+        if out.len() - place < 174 {
+            return Progress {
+                account: b,
+                at,
+                count,
+                code: 0,
+                length: place,
+                done: false,
+            };
+        }
         let read = text::read_event(text, at);
         match read {
             EventRead::Got { event, next } => {
@@ -106,41 +105,118 @@ fn put_events(text: &[u8], start: usize, a: Account, out: &mut [u8]) -> usize
                 b.charges[m.place as usize] = m.sum;
                 b.warned[(event.day % 400) as usize] = m.warned;
                 marks::set(&mut b.marks, m.kind, m.from, m.to);
-                place = put_event(out, place, n, m.code, m.value, totals);
+                count += 1;
+                place = put_event(out, place, count, m.code, m.value, totals);
                 at = next;
-                n += 1;
             }
             EventRead::Broken => {
                 let s = b.totals;
-                place = put_event(out, place, n, 15, 0, s);
-                return put_closing(out, place, s);
+                let after = put_event(out, place, count + 1, 15, 0, s);
+                let length = put_closing(out, after, s);
+                return Progress {
+                    account: b,
+                    at,
+                    count,
+                    code: 0,
+                    length,
+                    done: true,
+                };
             }
         }
     }
     let s = b.totals;
-    put_closing(out, place, s)
-}
-
-// The one line for terms that break their form or their limits.
-fn put_refusal(out: &mut [u8], code: u8) -> usize
-    requires { ⌜ 655360 ≤ length (now out) ⌝ }
-    ensures { λ r. ⌜ Wrote (now (out .entry)) 0 (termsLine code) (now (out .exit)) r ⌝ }
-{
-    put_line(out, 0, 0, code, 0, 0, 0)
-}
-
-// What the terms open, from the place after them on.
-fn put_account(text: &[u8], start: usize, terms: Terms, out: &mut [u8]) -> usize
-    requires { ⌜ (start ≤ length (now text)) × (length (now text) ≤ 65536) × (655360 ≤ length (now out)) ⌝ }
-    ensures { λ r. ⌜ Wrote (now (out .entry)) 0 (byTerms (got terms (drop start (now (text .entry))))) (now (out .exit)) r ⌝ }
-{
-    let opened = account::open(terms);
-    let code = opened.code;
-    if code != 0 {
-        return put_refusal(out, code);
+    let length = put_closing(out, place, s);
+    Progress {
+        account: b,
+        at,
+        count,
+        code: 0,
+        length,
+        done: true,
     }
-    let a = opened.account;
-    put_events(text, start, a, out)
+}
+
+// Terms that break their form, before their line is printed.
+fn malformed() -> Progress
+    ensures { λ r. ⌜ (r .code ≡ 15) × (r .done ≡ false) × (r .count ≡ 0) × (r .length ≡ 0) ⌝ }
+{
+    let terms = Terms {
+        opened: Date {
+            year: 0,
+            month: 0,
+            day: 0,
+        },
+        price: 0,
+        connect: 0,
+        cutoff: 0,
+        share: 0,
+    };
+    let opened = account::open(terms);
+    let account = opened.account;
+    Progress {
+        account,
+        at: 0,
+        count: 0,
+        code: 15,
+        length: 0,
+        done: false,
+    }
+}
+
+// Before the first piece: the account that the terms open, or their code.
+pub fn begin(text: &[u8]) -> Progress
+    ensures { λ r. ⌜ Begun (now (text .entry)) r ⌝ }
+{
+    if text.len() > 65536 {
+        return malformed();
+    }
+    let TermsRead::Got { terms, next } = text::read_terms(text) else {
+        return malformed();
+    };
+    let opened = account::open(terms);
+    let account = opened.account;
+    let code = opened.code;
+    Progress {
+        account,
+        at: next,
+        count: 0,
+        code,
+        length: 0,
+        done: false,
+    }
+}
+
+// The next piece, from the start of the buffer on. A buffer of less than 174 bytes gets none.
+pub fn piece(text: &[u8], p: Progress, out: &mut [u8]) -> Progress
+    ensures { λ q. ⌜ Piece (now (text .entry)) p (now (out .entry)) (now (out .exit)) q ⌝ }
+{
+    let mut q = p;
+    q.length = 0;
+    if out.len() < 174 {
+        return q;
+    }
+    if p.done {
+        return q;
+    }
+    q.done = true;
+    if p.count > p.at as u64 {
+        return q;
+    }
+    if p.code == 0 {
+        return put_events(text, p, out);
+    }
+    let none = Totals {
+        credit: 0,
+        debit: 0,
+        plan: 0,
+        standing: 0,
+        count: 0,
+        events: 0,
+        last: 0,
+        on: false,
+    };
+    q.length = put_event(out, 0, 0, p.code, 0, none);
+    q
 }
 
 // The transcript of a text, from the start of the buffer on, and how many bytes it has. A buffer shorter than 655,360 bytes is left alone.
@@ -150,12 +226,7 @@ pub fn transcript(text: &[u8], out: &mut [u8]) -> usize
     if out.len() < 655360 {
         return 0;
     }
-    if text.len() > 65536 {
-        return put_refusal(out, 15);
-    }
-    let read = text::read_terms(text);
-    match read {
-        TermsRead::Got { terms, next } => put_account(text, next, terms, out),
-        TermsRead::Broken => put_refusal(out, 15),
-    }
+    let p = begin(text);
+    let q = piece(text, p, out);
+    q.length
 }

@@ -1,6 +1,11 @@
 -- `transcript::put_closing` meets its contract. Assumes nothing.
 use mathlib.Core.Path.{sym}
+use mathlib.Core.List.{_++_}
+use Rattle.printing.specs.Printing.{decimal, signed, Puts}
+use Rattle.printing.proofs.Digits.{length-decimal, length-signed}
 use Rattle.printing.proofs.Signs.{back}
+use Rattle.printing.proofs.Placed.{word-last, field-then}
+use Rattle.transcript.specs.Transcript.{lastLine, wSettled, wEstimates}
 use borrow.Author.Needs.{needs}
 use Rattle.transcript.proofs.put_closing.Statement.{statement}
 use Rattle.transcript.proofs.put_closing.Tie as tie
@@ -11,15 +16,49 @@ settled-requires c κs = search needs
 estimates-requires : tie.Need-estimates-requires
 estimates-requires c κs = search needs
 
-put-last-requires : tie.Need-put-last-requires
-put-last-requires c κs = search needs
+slice-aggregate-put-sum : tie.Need-slice-aggregate-put-sum
+slice-aggregate-put-sum c = search needs
+
+put-sum-requires : tie.Need-put-sum-requires
+put-sum-requires c κs = search needs
+
+slice-aggregate-put-field : tie.Need-slice-aggregate-put-field
+slice-aggregate-put-field c = search needs
+
+put-field-requires : tie.Need-put-field-requires
+put-field-requires c κs = search needs
+
+slice-aggregate-put-bytes : tie.Need-slice-aggregate-put-bytes
+slice-aggregate-put-bytes c = search needs
+
+put-bytes-requires : tie.Need-put-bytes-requires
+put-bytes-requires c κs = search needs
 
 same-length : tie.Need-same-length
 same-length c = search needs
 
 returns : tie.Need-returns
-returns c = rw (sym (c .before .before .before .before .settled .ensures .0), sym (c .before .before .before .estimates .ensures .0)) (rw (back (c .before .before .before .before .settled .result) (record { sfits = c .before .before .before .before .settled .ok })) at (c .before .before .put-last .ensures))
+unfolding lastLine
+returns c =
+    let b = c .before .before .before .before .before .before .before .before .before .before .before .before .before .before .before .before .settled in
+    let p = c .before .before .before .before .before .before .before .before .before .before .before .before .before .before .before .estimates in
+    let sum : Puts _ _ (wSettled ++ signed (b .result)) _ _ = rw (back (b .result) (record { sfits = b .ok })) at (c .before .before .before .before .before .before .before .before .before .before .before .before .put-sum .ensures) in
+    rw (sym (b .ensures .0), sym (p .ensures .0))
+    (field-then wSettled (signed (b .result)) 20 (length-signed (b .result) (b .ok)) sum 32 (c .before .before .before .before .before .before .before .before .before .before .before .before .before .before .before .before .before .before .pre) (λ h1.
+    field-then wEstimates (decimal (p .result)) 20 (length-decimal (p .result) (p .ok)) (c .before .before .before .before .before .before .before .put-field .ensures) 1 h1 (λ h2.
+    word-last (c .before .before .put-bytes .ensures) h2)) .0)
 
 pub put-closing-spec : {M : Type 1} → statement M
 put-closing-spec =
-    tie.close (tie.spec settled-requires estimates-requires put-last-requires same-length returns)
+    tie.close
+    (tie.spec
+    settled-requires
+    estimates-requires
+    slice-aggregate-put-sum
+    put-sum-requires
+    slice-aggregate-put-field
+    put-field-requires
+    slice-aggregate-put-bytes
+    put-bytes-requires
+    same-length
+    returns)

@@ -9,26 +9,35 @@ use Rattle.account.specs.Head.{stepOf}
 use Rattle.account.proofs.Enters.{Enters, usedAt, dayAt, entered}
 use Rattle.text.specs.Text.{EventAt}
 use Rattle.text.specs.declared.EventRead.the-variants.{Got}
-use Rattle.transcript.proofs.Turn.{Going, begins, turns, stops, ends}
+use Rattle.transcript.proofs.Turn.{Going, begins, sized, turns, pauses, stops, ends}
 use Rattle.transcript.proofs.put_events.Statement.{statement}
 use Rattle.transcript.proofs.put_events.Tie as tie
 
 abbrev Inv-loop : tie.InvT-loop
-Inv-loop text start out₀ b₀ at₀ n₀ place₀ out b at n place = Going text start b₀ out₀ out b at n place
+Inv-loop text out₀ b₀ at₀ count₀ place₀ out b at count place = Going text b₀ at₀ count₀ out₀ out b at count place
 
 abbrev μ-loop : tie.MeasureT-loop
-μ-loop text start out₀ b₀ at₀ n₀ place₀ out b at n place = length text - at
+μ-loop text out₀ b₀ at₀ count₀ place₀ out b at count place = length text - at
 
 -- the event that was read
-read-as : (c : tie.After-read Inv-loop μ-loop) → EventAt (now (c .before .before .before .before .before .before .before .args .text)) (c .before .before .before .before .loop .at) (Got (c .read .given .0 .0) (c .read .given .0 .1 .0))
+read-as : (c : tie.After-read Inv-loop μ-loop) → EventAt (now (c .before .before .before .before .before .before .before .before .before .args .text)) (c .before .before .before .before .before .loop .at) (Got (c .read .given .0 .0) (c .read .given .0 .1 .0))
 read-as c = rw (c .read .given .1) at (c .before .before .read-event .ensures)
 
 -- the move's places are there, and the record it is written into is the step's
-enters : (c : tie.After-move-of Inv-loop μ-loop) → let b = c .before .before .before .before .before .before .before .before .before .before .before .before .before .before .before .before .loop .b in let e = c .before .before .before .before .before .before .before .before .before .before .before .before .read .given .0 .0 in Enters b (usedAt e) (dayAt e) (c .move-of .result) (stepOf b e)
+enters : (c : tie.After-move-of Inv-loop μ-loop) → let b = c .before .before .before .before .before .before .before .before .before .before .before .before .before .before .before .before .before .loop .b in let e = c .before .before .before .before .before .before .before .before .before .before .before .before .read .given .0 .0 in Enters b (usedAt e) (dayAt e) (c .move-of .result) (stepOf b e)
 enters c = rw (c .move-of .ensures) (entered _ _)
 
 loop-holds : tie.Need-loop-holds Inv-loop μ-loop
-loop-holds c = begins _ _ _ _ (c .before .before .pre .0)
+loop-holds c = begins _ _ _ _ _ (c .before .before .before .pre .3) (c .before .before .before .pre .2)
+
+sub-if1 : tie.Need-sub-if1 Inv-loop μ-loop
+sub-if1 c = omega (arith, c .before .loop .inv .room)
+
+same-length : tie.Need-same-length Inv-loop μ-loop
+same-length c = sized _ _ _ _ _ _ _ _ _ _ (c .before .before .loop .inv)
+
+returns : tie.Need-returns Inv-loop μ-loop
+returns c = pauses _ _ _ _ _ _ _ _ (c .before .before .loop .inv) (c .before .before .before .before .before .before .pre .0) (c .before .before .before .before .before .before .pre .1) (c .before .before .before .before .before .before .pre .2) (c .before .before .before .before .before .before .pre .3) (c .if1 .taken)
 
 read-event-requires : tie.Need-read-event-requires Inv-loop μ-loop
 read-event-requires c κs = search needs
@@ -90,41 +99,44 @@ element-write-b-2 c = search needs
 set-requires : tie.Need-set-requires Inv-loop μ-loop
 set-requires c κs = search needs
 
-put-event-requires : tie.Need-put-event-requires Inv-loop μ-loop
-put-event-requires c κs = omega (arith, c .before .before .before .before .before .before .before .before .before .before .before .before .before .before .before .before .before .before .before .before .before .before .before .before .before .before .before .before .pre, c .before .before .before .before .before .before .before .before .before .before .before .before .before .before .before .before .before .before .before .before .before .before .before .before .before .loop .inv)
+add-count : tie.Need-add-count Inv-loop μ-loop
+add-count c = omega (arith, c .before .before .before .before .before .before .before .before .before .before .before .before .before .before .before .before .before .before .before .before .before .before .before .before .before .loop .inv .counted, c .before .before .before .before .before .before .before .before .before .before .before .before .before .before .before .before .before .before .before .before .before .before .before .before .loop-test .taken, c .before .before .before .before .before .before .before .before .before .before .before .before .before .before .before .before .before .before .before .before .before .before .before .before .before .before .before .before .before .good)
 
-add-n : tie.Need-add-n Inv-loop μ-loop
-add-n c = omega (arith, c .before .before .before .before .before .before .before .before .before .before .before .before .before .before .before .before .before .before .before .before .before .before .before .before .before .before .before .before .before .before .before .pre, c .before .before .before .before .before .before .before .before .before .before .before .before .before .before .before .before .before .before .before .before .before .before .before .before .before .before .before .before .loop .inv)
+put-event-requires : tie.Need-put-event-requires Inv-loop μ-loop
+put-event-requires c κs = omega (arith, c .before .before .before .before .before .before .before .before .before .before .before .before .before .before .before .before .before .before .before .before .before .before .before .before .before .before .loop .inv .room, c .before .before .before .before .before .before .before .before .before .before .before .before .before .before .before .before .before .before .before .before .before .before .before .before .if1 .left)
 
 loop-less : tie.Need-loop-less Inv-loop μ-loop
-loop-less c = let e = read-as (c .before .before .before .before .before .before .before .before .before .before .before .before .before .before .before .before .before .before .before .before .before .before .before .before) in omega (arith, e .1, e .2, c .before .before .before .before .before .before .before .before .before .before .before .before .before .before .before .before .before .before .before .before .before .before .before .before .before .before .before .loop-test .taken)
+loop-less c = let e = read-as (c .before .before .before .before .before .before .before .before .before .before .before .before .before .before .before .before .before .before .before .before .before .before .before .before) in omega (arith, e .1, e .2, c .before .before .before .before .before .before .before .before .before .before .before .before .before .before .before .before .before .before .before .before .before .before .before .before .before .before .before .before .loop-test .taken)
 
 loop-again : tie.Need-loop-again Inv-loop μ-loop
-loop-again c = let e = read-as (c .before .before .before .before .before .before .before .before .before .before .before .before .before .before .before .before .before .before .before .before .before .before .before .before) in turns _ _ _ _ _ _ _ _ _ (c .before .before .before .before .before .before .before .before .before .before .before .before .before .before .before .before .before .before .before .before .before .before .before .before .before .before .before .before .loop .inv) _ _ _ _ _ (c .before .before .before .before .before .before .before .before .before .before .before .before .before .before .before .before .before .before .before .before .before .before .before .before .before .before .before .loop-test .taken) (e .0) (e .1) (e .2) (rw (c .before .before .before .before .set .ensures) (enters (c .before .before .before .before .before .before .before .before .before .before .before .before) .same)) (c .before .before .put-event .ensures .0) (c .before .before .put-event .ensures .1)
+loop-again c = let e = read-as (c .before .before .before .before .before .before .before .before .before .before .before .before .before .before .before .before .before .before .before .before .before .before .before .before) in turns _ _ _ _ _ _ _ _ _ _ (c .before .before .before .before .before .before .before .before .before .before .before .before .before .before .before .before .before .before .before .before .before .before .before .before .before .before .before .before .before .loop .inv) _ _ _ _ _ (c .before .before .before .before .before .before .before .before .before .before .before .before .before .before .before .before .before .before .before .before .before .before .before .before .before .before .before .before .loop-test .taken) (e .0) (e .1) (e .2) (c .before .before .before .before .before .before .before .before .before .before .before .before .before .before .before .before .before .before .before .before .before .before .before .before .before .before .before .if1 .left) (rw (c .before .before .before .before .set .ensures) (enters (c .before .before .before .before .before .before .before .before .before .before .before .before) .same)) (c .before .before .put-event .ensures .0) (c .before .before .put-event .ensures .1)
 
 enum-told : tie.Need-enum-told Inv-loop μ-loop
 enum-told c = search needs
 
+add-put-event : tie.Need-add-put-event Inv-loop μ-loop
+add-put-event c = omega (arith, c .before .before .before .before .before .before .before .loop .inv .counted, c .before .before .before .before .before .before .loop-test .taken)
+
 put-event-requires-2 : tie.Need-put-event-requires-2 Inv-loop μ-loop
-put-event-requires-2 c κs = omega (arith, c .before .before .before .before .before .before .before .before .before .pre, c .before .before .before .before .before .before .loop .inv)
+put-event-requires-2 c κs = omega (arith, c .before .before .before .before .before .before .before .loop .inv .room, c .before .before .before .before .before .if1 .left)
 
 put-closing-requires : tie.Need-put-closing-requires Inv-loop μ-loop
-put-closing-requires c κs = omega (arith, c .before .before .before .before .before .before .before .before .before .before .before .before .before .pre, c .before .before .before .before .before .before .before .before .before .before .loop .inv, c .before .before .before .put-event2 .ensures .1, c .before .before .before .put-event2 .kept .0)
-
-same-length : tie.Need-same-length Inv-loop μ-loop
-same-length c = c .before .before .put-closing .kept .0 ∙ c .before .before .before .before .before .before .put-event2 .kept .0 ∙ c .before .before .before .before .before .before .before .before .before .before .before .before .before .loop .inv .sized
-
-returns : tie.Need-returns Inv-loop μ-loop
-returns c = stops _ _ _ _ _ _ _ _ _ (c .before .before .before .before .before .before .before .before .before .before .before .before .before .loop .inv) _ _ _ _ (c .before .before .before .before .before .before .before .before .before .before .before .before .loop-test .taken) (rw (c .before .before .before .before .before .before .before .before .before .enum-told .given .1) at (c .before .before .before .before .before .before .before .before .before .before .before .read-event .ensures)) (c .before .before .before .before .before .before .put-event2 .ensures .0) (c .before .before .put-closing .ensures)
-
-put-closing-requires-2 : tie.Need-put-closing-requires-2 Inv-loop μ-loop
-put-closing-requires-2 c κs = omega (arith, c .before .before .before .before .before .before .pre, c .before .before .before .loop .inv)
+put-closing-requires c κs = omega (arith, c .before .before .before .before .before .before .before .before .before .before .before .loop .inv .room, c .before .before .before .before .before .before .before .before .before .if1 .left, c .before .before .before .put-event2 .ensures .1, c .before .before .before .put-event2 .kept .0)
 
 same-length-2 : tie.Need-same-length-2 Inv-loop μ-loop
-same-length-2 c = c .before .before .put-closing2 .kept .0 ∙ c .before .before .before .before .before .before .loop .inv .sized
+same-length-2 c = c .before .before .put-closing .kept .0 ∙ c .before .before .before .before .before .before .put-event2 .kept .0 ∙ sized _ _ _ _ _ _ _ _ _ _ (c .before .before .before .before .before .before .before .before .before .before .before .before .before .before .loop .inv)
 
 returns-2 : tie.Need-returns-2 Inv-loop μ-loop
-returns-2 c = ends _ _ _ _ _ _ _ _ _ (c .before .before .before .before .before .before .loop .inv) _ _ (c .before .before .before .before .before .loop-test .left) (c .before .before .put-closing2 .ensures)
+returns-2 c = stops _ _ _ _ _ _ _ _ (c .before .before .before .before .before .before .before .before .before .before .before .before .before .before .loop .inv) (c .before .before .before .before .before .before .before .before .before .before .before .before .before .before .before .before .before .before .pre .0) (c .before .before .before .before .before .before .before .before .before .before .before .before .before .before .before .before .before .before .pre .1) (c .before .before .before .before .before .before .before .before .before .before .before .before .before .before .before .before .before .before .pre .2) (c .before .before .before .before .before .before .before .before .before .before .before .before .before .before .before .before .before .before .pre .3) _ _ _ _ (c .before .before .before .before .before .before .before .before .before .before .before .before .before .loop-test .taken) (rw (c .before .before .before .before .before .before .before .before .before .enum-told .given .1) at (c .before .before .before .before .before .before .before .before .before .before .before .read-event .ensures)) (c .before .before .before .before .before .before .put-event2 .ensures .0) (c .before .before .put-closing .ensures)
+
+put-closing-requires-2 : tie.Need-put-closing-requires-2 Inv-loop μ-loop
+put-closing-requires-2 c κs = c .before .before .before .loop .inv .room
+
+same-length-3 : tie.Need-same-length-3 Inv-loop μ-loop
+same-length-3 c = c .before .before .put-closing2 .kept .0 ∙ sized _ _ _ _ _ _ _ _ _ _ (c .before .before .before .before .before .before .loop .inv)
+
+returns-3 : tie.Need-returns-3 Inv-loop μ-loop
+returns-3 c = ends _ _ _ _ _ _ _ _ (c .before .before .before .before .before .before .loop .inv) (c .before .before .before .before .before .before .before .before .before .before .pre .0) (c .before .before .before .before .before .before .before .before .before .before .pre .1) (c .before .before .before .before .before .before .before .before .before .before .pre .2) (c .before .before .before .before .before .before .before .before .before .before .pre .3) _ _ (c .before .before .before .before .before .loop-test .left) (c .before .before .put-closing2 .ensures)
 
 pub put-events-spec : {M : Type 1} → statement M
 put-events-spec =
@@ -133,6 +145,9 @@ put-events-spec =
     Inv-loop
     μ-loop
     loop-holds
+    sub-if1
+    same-length
+    returns
     read-event-requires
     enum-known-read
     cast-number
@@ -153,15 +168,16 @@ put-events-spec =
     cast-b-2
     element-write-b-2
     set-requires
+    add-count
     put-event-requires
-    add-n
     loop-less
     loop-again
     enum-told
+    add-put-event
     put-event-requires-2
     put-closing-requires
-    same-length
-    returns
-    put-closing-requires-2
     same-length-2
-    returns-2)
+    returns-2
+    put-closing-requires-2
+    same-length-3
+    returns-3)
