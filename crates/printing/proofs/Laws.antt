@@ -1,6 +1,6 @@
 -- Bytes put into a buffer: what stays, and putting one thing after the other. Assumes nothing.
 use mathlib.Core.Path.{_≡_, sym, ap, _∙_}
-use mathlib.Core.Bool.{true, false}
+use mathlib.Core.Bool.{false}
 use mathlib.Core.List.{List, [], _∷_, _++_, append-assoc}
 use Prim.Native.Nat.{ℕ, suc, _+_, _-_, _≤_, _<_}
 use native.Mathlib.Nat.{add-zero}
@@ -97,18 +97,9 @@ module _ (b : List ℕ) (at : ℕ) (x : List ℕ) where
   unfolding past fits
   past-fits h = simp (le-leb (at + length x) (length b) h)
 
-  pub puts-all : (after : List ℕ) (r : ℕ) → leb (at + length x) (length b) ≡ true → after ≡ over b at x → r ≡ at + length x → Puts b at x after r
-  unfolding put past fits
-  puts-all after r t e n = record { buffer = simp t e; next = simp t n }
+  pub puts-all : (after : List ℕ) (r : ℕ) → at + length x ≤ length b → after ≡ over b at x → r ≡ at + length x → Puts b at x after r
+  puts-all after r h e n = record { buffer = e ∙ sym (put-fits h); next = n ∙ sym (past-fits h) }
 
   pub puts-nothing : leb (at + length x) (length b) ≡ false → Puts b at x b at
   unfolding put past fits
   puts-nothing f = record { buffer = simp f; next = simp f }
-
--- the first byte set, and then the others put
-pub puts-first : (b : List ℕ) (at : ℕ) (x : List ℕ) (g : ℕ) (after : List ℕ) (r : ℕ) → at + length (g ∷ x) ≤ length b → Puts (set b at g) (at + 1) x after r → Puts b at (g ∷ x) after r
-puts-first b at x g after r h p =
-    let others : at + 1 + length x ≤ length (set b at g) = simp length-set (omega arith) in
-    puts-all b at (g ∷ x) after r (le-leb (at + length (g ∷ x)) (length b) h)
-    (p .buffer ∙ put-fits (set b at g) (at + 1) x others ∙ over-first b at x g h)
-    (p .next ∙ past-fits (set b at g) (at + 1) x others ∙ omega arith)

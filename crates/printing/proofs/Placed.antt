@@ -5,7 +5,6 @@ use Prim.Native.Nat.{ℕ, _+_, _≤_}
 use native.Mathlib.Nat.{zero-add}
 use native.Mathlib.Omega.{arith}
 use lib.ListN.{length, drop, length-append}
-use borrow.Author.Tests.{le-leb}
 use Rattle.printing.specs.Printing.{over, Puts, Wrote}
 use Rattle.printing.proofs.Laws.{length-over, over-over, put-fits, past-fits, puts-all}
 
@@ -25,14 +24,18 @@ module _ {b : List ℕ} {at : ℕ} {x after : List ℕ} {r : ℕ} where
         room = simp length-append (omega arith);
       }
 
--- one call after the other, where both have room
-pub puts-then : {b : List ℕ} {at : ℕ} (x y : List ℕ) {after : List ℕ} {r : ℕ} {last : List ℕ} {q : ℕ}
-    → Puts b at x after r → Puts after r y last q → at + length (x ++ y) ≤ length b → Puts b at (x ++ y) last q
-puts-then {b} {at} x y {after} {r} {last} {q} p v h =
-    let fits : at + length x + length y ≤ length b = omega (arith, length-append x y) in
-    let first : Wrote b at x after r = wrote p (omega arith) in
-    let whole : Wrote b at (x ++ y) last q = wrote-then first (wrote v (omega (arith, kept first, first .next))) in
-    puts-all b at (x ++ y) last q (le-leb (at + length (x ++ y)) (length b) h) (whole .buffer) (whole .next)
+-- a word put, and bytes written after it, where both have room
+module _ {b : List ℕ} {at : ℕ} (x y : List ℕ) {after : List ℕ} {r : ℕ} (p : Puts b at x after r) (h : at + length (x ++ y) ≤ length b) where
+  word : Wrote b at x after r
+  word = wrote p (omega (arith, length-append x y))
+
+  pub room-after : r + length y ≤ length after
+  room-after = omega (arith, length-append x y, word .next, kept word)
+
+  pub puts-then : {last : List ℕ} {q : ℕ} → last ≡ over after r y → q ≡ r + length y → Puts b at (x ++ y) last q
+  puts-then {last} {q} e n =
+      let whole : Wrote b at (x ++ y) last q = wrote-then word (record { buffer = e; next = n; room = room-after }) in
+      puts-all b at (x ++ y) last q h (whole .buffer) (whole .next)
 
 -- ---- the last word, the last field, and a field and what follows it: whole, and how far they reach, with `most` digits at most and `rest`
 -- bytes at most after them

@@ -1,10 +1,10 @@
 -- A signed number of 64 bits and its magnitude. Assumes nothing.
-use mathlib.Core.Path.{_≡_, refl, sym, ap, _∙_}
-use mathlib.Core.Bool.{Bool, true, false, true≢false}
+use mathlib.Core.Path.{_≡_, refl, sym, _∙_}
+use mathlib.Core.Bool.{true, false, true≢false}
 use mathlib.Core.List.{_∷_}
-use Prim.Native.Nat.{ℕ, zero, suc, _+_, _≤_, _<_, _^_}
+use Prim.Native.Nat.{zero, suc, _+_, _≤_}
 use native.Mathlib.Omega.{arith}
-use lib.IntN.{ℤ, pos, negsuc, sucℤ, natAbs, _+ℤ_, _-ℤ_, +ℤ-one, +ℤ-idl}
+use lib.IntN.{ℤ, pos, negsuc, natAbs, _+ℤ_, _-ℤ_, +ℤ-one, +ℤ-idl}
 use lib.Signed.{mag, ltZ, leZ, nonNeg}
 use lib.Dec.{T, leb}
 use mir.Syntax.{w64}

@@ -46,38 +46,19 @@ fn places(n: u64) -> usize
     k
 }
 
-fn digit(d: u64) -> u8
-    requires { ⌜ d ≤ 9 ⌝ }
-    ensures { λ r. ⌜ r ≡ 48 + d ⌝ }
-{
-    48 + d as u8
-}
-
-// The digits of n, the last of them at place `last`.
-fn spell(out: &mut [u8], at: usize, last: usize, n: u64)
-    requires { ⌜ (last + 1 ≡ at + length (decimal n)) × (at + length (decimal n) ≤ length (now out)) ⌝ }
+// The digits of n, from place `at` up to place `end`.
+fn spell(out: &mut [u8], at: usize, end: usize, n: u64)
+    requires { ⌜ (end ≡ at + length (decimal n)) × (end ≤ length (now out)) ⌝ }
     ensures { λ _. ⌜ now (out .exit) ≡ over (now (out .entry)) at (decimal n) ⌝ }
 {
-    let mut i = last;
+    let mut i = end - 1;
     let mut rest = n;
     while rest >= 10 {
-        out[i] = digit(rest % 10);
+        out[i] = b'0' + (rest % 10) as u8;
         rest /= 10;
         i -= 1;
     }
-    out[i] = digit(rest);
-}
-
-// The number in base ten.
-pub fn put_number(out: &mut [u8], at: usize, n: u64) -> usize
-    ensures { λ r. ⌜ Puts (now (out .entry)) at (decimal n) (now (out .exit)) r ⌝ }
-{
-    let digits = places(n);
-    if !room(out.len(), at, digits) {
-        return at;
-    }
-    spell(out, at, at + digits - 1, n);
-    at + digits
+    out[i] = b'0' + rest as u8;
 }
 
 // The number without its minus.
@@ -90,50 +71,36 @@ fn magnitude(z: i64) -> u64
     z as u64
 }
 
-// How many bytes z has: its digits, and the minus below zero.
-fn width(z: i64) -> usize
-    ensures { λ r. ⌜ r ≡ length (signed z) ⌝ }
-{
-    let count = places(magnitude(z));
-    if 0 <= z {
-        return count;
-    }
-    count + 1
-}
-
-// The number in base ten, with a leading minus below zero.
-pub fn put_signed(out: &mut [u8], at: usize, z: i64) -> usize
-    ensures { λ r. ⌜ Puts (now (out .entry)) at (signed z) (now (out .exit)) r ⌝ }
-{
-    let n = magnitude(z);
-    if z >= 0 {
-        return put_number(out, at, n);
-    }
-    if !room(out.len(), at, width(z)) {
-        return at;
-    }
-    out[at] = b'-';
-    put_number(out, at + 1, n)
-}
-
 // A word and the number after it, as one: nothing is put where both do not fit.
 pub fn put_field(out: &mut [u8], at: usize, word: &[u8], n: u64) -> usize
     ensures { λ r. ⌜ Puts (now (out .entry)) at (now (word .entry) ++ decimal n) (now (out .exit)) r ⌝ }
 {
-    if !room(out.len(), at, word.len() + places(n)) {
+    let digits = places(n);
+    if !room(out.len(), at, word.len() + digits) {
         return at;
     }
-    let next = put_bytes(out, at, word);
-    put_number(out, next, n)
+    let from = put_bytes(out, at, word);
+    let end = from + digits;
+    spell(out, from, end, n);
+    end
 }
 
 // A word and the sum after it, in the same way.
 pub fn put_sum(out: &mut [u8], at: usize, word: &[u8], z: i64) -> usize
     ensures { λ r. ⌜ Puts (now (out .entry)) at (now (word .entry) ++ signed z) (now (out .exit)) r ⌝ }
 {
-    if !room(out.len(), at, word.len() + width(z)) {
+    let n = magnitude(z);
+    if z >= 0 {
+        return put_field(out, at, word, n);
+    }
+    let digits = places(n);
+    if !room(out.len(), at, word.len() + digits + 1) {
         return at;
     }
-    let next = put_bytes(out, at, word);
-    put_signed(out, next, z)
+    let minus = put_bytes(out, at, word);
+    out[minus] = b'-';
+    let first = minus + 1;
+    let end = first + digits;
+    spell(out, first, end, n);
+    end
 }

@@ -1,6 +1,5 @@
 -- `printing::magnitude` meets its contract. Assumes nothing.
 use native.Mathlib.Omega.{arith}
-use lib.Signed.{mag}
 use Rattle.printing.proofs.Signs.{above, more-fits, taken-fits, taken-back, magnitude-below}
 use borrow.Author.Needs.{needs}
 use Rattle.printing.proofs.magnitude.Statement.{statement}

@@ -1,10 +1,9 @@
 -- `printing::places` meets its contract. The loop's invariant: k digits with those of the rest are one more than those of n.
 -- Assumes nothing.
-use Prim.Native.Nat.{_+_, _≤_}
+use Prim.Native.Nat.{_+_}
 use mathlib.Core.Path.{_≡_, ap}
 use native.Mathlib.Omega.{arith}
 use lib.ListN.{length}
-use borrow.Author.Needs.{needs}
 use Rattle.printing.specs.Printing.{decimal}
 use Rattle.printing.proofs.Digits.{decimal-low, length-high, length-decimal, some-digit}
 use Rattle.printing.proofs.places.Statement.{statement}

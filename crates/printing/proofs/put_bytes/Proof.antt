@@ -4,11 +4,11 @@ use Prim.Native.Nat.{_+_, _-_, _≤_}
 use mathlib.Core.Path.{_≡_, refl, sym, _∙_}
 use native.Mathlib.Numerals.{add-one}
 use native.Mathlib.Omega.{arith}
-use lib.ListN.{length, length-set}
+use lib.ListN.{length}
 use lib.Seq.{paste, paste-zero, paste-suc, length-paste}
 use borrow.Author.Needs.{needs}
 use denote.Ref.{now}
-use borrow.Author.Tests.{leb-true, le-leb, not-true, not-false}
+use borrow.Author.Tests.{leb-true, not-true, not-false}
 use Rattle.printing.proofs.Laws.{paste-all, puts-nothing, puts-all}
 use Rattle.printing.proofs.put_bytes.Statement.{statement}
 use Rattle.printing.proofs.put_bytes.Tie as tie
@@ -28,13 +28,13 @@ returns c = puts-nothing _ _ _ (sym (c .before .room .ensures) ∙ not-true _ (c
 loop-holds : tie.Need-loop-holds Inv-loop μ-loop
 loop-holds c =
     let a = c .before .before .before .before .args in
-    (search needs, leb-true (a .at + length (now (a .bytes))) (length (now (a .out))) (sym (c .before .room .ensures) ∙ not-false _ (c .if1 .left)), paste-zero (now (a .out)) (a .at) (now (a .bytes)))
+    (omega arith, leb-true (a .at + length (now (a .bytes))) (length (now (a .out))) (sym (c .before .room .ensures) ∙ not-false _ (c .if1 .left)), paste-zero (now (a .out)) (a .at) (now (a .bytes)))
 
 shared-slice-read-out : tie.Need-shared-slice-read-out Inv-loop μ-loop
-shared-slice-read-out c = search needs
+shared-slice-read-out c = omega arith
 
 add-out : tie.Need-add-out Inv-loop μ-loop
-add-out c = search needs
+add-out c = omega arith
 
 slice-write-out : tie.Need-slice-write-out Inv-loop μ-loop
 slice-write-out c =
@@ -43,19 +43,19 @@ slice-write-out c =
     rw (l .inv .2, length-paste (now (a .out)) (a .at) (now (a .bytes)) (l .i) (omega arith) (l .inv .0)) (omega arith)
 
 add-i : tie.Need-add-i Inv-loop μ-loop
-add-i c = search needs
+add-i c = omega arith
 
 loop-less : tie.Need-loop-less Inv-loop μ-loop
-loop-less c = search needs
+loop-less c = omega arith
 
 loop-again : tie.Need-loop-again Inv-loop μ-loop
 loop-again c =
     let a = c .before .before .before .before .before .before .before .args in
     let l = c .before .before .loop in
-    (search needs, l .inv .1, rw (add-one (l .i), l .inv .2) (paste-suc (now (a .out)) (a .at) (now (a .bytes)) (l .i) 0 (omega arith) (omega arith)))
+    (omega arith, l .inv .1, rw (add-one (l .i), l .inv .2) (paste-suc (now (a .out)) (a .at) (now (a .bytes)) (l .i) 0 (omega arith) (omega arith)))
 
 add-result : tie.Need-add-result Inv-loop μ-loop
-add-result c = search needs
+add-result c = omega arith
 
 same-length : tie.Need-same-length Inv-loop μ-loop
 same-length c =
@@ -68,7 +68,7 @@ returns-2 c =
     let a = c .before .before .before .before .before .before .args in
     let l = c .before .loop in
     let e : l .i ≡ length (now (a .bytes)) = omega arith in
-    puts-all _ _ _ _ _ (le-leb _ _ (l .inv .1)) (l .inv .2 ∙ paste-all (now (a .out)) (a .at) (now (a .bytes)) (l .i) e) refl
+    puts-all _ _ _ _ _ (l .inv .1) (l .inv .2 ∙ paste-all (now (a .out)) (a .at) (now (a .bytes)) (l .i) e) refl
 
 pub put-bytes-spec : {M : Type 1} → statement M
 put-bytes-spec =
