@@ -1,15 +1,15 @@
 #!/usr/bin/env python3
-# NOTE. Makes data/vectors.txt from Python's datetime alone, with no code of this repository:
-#   python3 crates/calendar_test/make_vectors.py > crates/calendar_test/data/vectors.txt
+# NOTE. Makes the lines `all` of the files stdin and stdout, which stand last in both, from Python's datetime alone, with no code of this
+# repository:
+#   python3 crates/calendar_test/make_vectors.py
 # The run is deterministic: the random openings and days come from random.Random(498).
-# A line is 44 bytes, the line feed included, its fields apart by one space:
-#   0   opening date, YYYYMMDD
-#   9   day k, three digits
-#   13  the date of day k: opening date + timedelta(k)
-#   22  its weekday, 0 for Monday to 6 for Sunday: date.weekday()
-#   24  the number of its month, counted from the opening month, two digits
-#   27  the date after: day k's date + timedelta(1)
-#   36  the first of days 0 to 399 in that month, and one more than the last: counted day by day
+# Of day k, the file stdin says what is asked: the opening date, k, its date, and its month, counted from the opening month.
+# The file stdout has in the same line, after the colon:
+#   whether the opening date is a date, whether it can open; the same of the date of day k, which opens until 2099
+#   the date, opening date + timedelta(k); its weekday, 0 for Monday to 6 for Sunday, date.weekday(); its month
+#   the date's number, k; the first of days 0 to 399 in its month, and one more than the last, counted day by day
+#   the date after, date + timedelta(1); and once more, asked of the date alone, weekday and month
+import os
 import random
 from datetime import date, timedelta
 
@@ -18,13 +18,18 @@ def number(opened, d):
     return 12 * (d.year - opened.year) + d.month - opened.month
 
 
-def line(opened, k):
+def question(opened, k):
+    d = opened + timedelta(k)
+    return f"all {opened} {k} {d} {number(opened, d)}"
+
+
+def answer(opened, k):
     d = opened + timedelta(k)
     m = number(opened, d)
     days = [i for i in range(400) if number(opened, opened + timedelta(i)) == m]
     after = d + timedelta(1)
-    return (f"{opened:%Y%m%d} {k:03} {d:%Y%m%d} {d.weekday()} {m:02} {after:%Y%m%d} "
-            f"{days[0]:03} {days[-1] + 1:03}")
+    return (f"{question(opened, k)}: 1 1 1 {int(d.year <= 2099)} {d:%Y%m%d} {d.weekday()} {m} {k} "
+            f"{days[0]} {days[-1] + 1} {after:%Y%m%d} {d.weekday()} {m}")
 
 
 EDGES = [0, 1, 58, 59, 60, 61, 365, 366, 398, 399]
@@ -61,5 +66,9 @@ first, last = date(2000, 1, 1), date(2099, 12, 31)
 for _ in range(240):
     pairs.append((first + timedelta(draw.randint(0, (last - first).days)), draw.randint(0, 399)))
 
-for opened, k in dict.fromkeys(pairs):
-    print(line(opened, k))
+for name, line in [("stdin", question), ("stdout", answer)]:
+    path = os.path.join(os.path.dirname(os.path.abspath(__file__)), name)
+    with open(path) as f:
+        others = [text for text in f if not text.startswith("all ")]
+    with open(path, "w") as f:
+        f.writelines(others + [line(opened, k) + "\n" for opened, k in dict.fromkeys(pairs)])

@@ -1,5 +1,6 @@
 // The posting calls over a lent account, row and buffer. Each is called by a thin function that takes the account and the row by value,
 // lends them, and says what was left; its promise is the call's own.
+// A line `n` is an event of the paper's example, a line `row` a row of so many events: its own answer, and the code in each byte of the buffer.
 // The lines of the file stdout are worked out from document 01 by hand; none is copied from a run.
 use account::Account;
 use calendar::Date;
@@ -47,63 +48,47 @@ fn row_of_none(a: Account, row: [Event; 0], codes: &mut [u8]) -> Done
     Done { account: b, answer }
 }
 
-fn say(text: &[u8]) {
-    io::write_all(STDOUT_FILENO, text);
-}
+// ---- writing
 
-fn say_number(n: u64) {
+// A word and the number after it.
+fn say(word: &[u8], n: u64) {
+    io::write_all(STDOUT_FILENO, word);
     io::print_decimal(STDOUT_FILENO, n);
 }
 
-fn say_byte(b: u8) {
-    say(b" ");
-    io::print_decimal(STDOUT_FILENO, b as u64);
+// The balance, where it is not below zero: in no case it is.
+fn say_balance(word: &[u8], s: Totals) {
+    if s.credit >= s.debit {
+        say(word, s.credit - s.debit);
+    }
+}
+
+// The account after a call: balance, plan, payments and events accepted, service.
+fn say_account(s: Totals) {
+    say_balance(b" balance=", s);
+    say(b" plan=", s.plan);
+    say(b" payments=", s.count as u64);
+    say(b" events=", s.events as u64);
+    if s.on {
+        io::write_all(STDOUT_FILENO, b" on\n");
+        return;
+    }
+    io::write_all(STDOUT_FILENO, b" off\n");
+}
+
+fn say_code(code: u8) {
+    say(b" code=", code as u64);
 }
 
 fn say_codes(codes: &[u8]) {
-    say(b", codes");
     let mut i = 0;
     while i < codes.len() {
-        say_byte(codes[i]);
+        say_code(codes[i]);
         i += 1;
     }
 }
 
-fn say_balance(s: Totals) {
-    if s.credit >= s.debit {
-        say_number(s.credit - s.debit);
-    } else {
-        say(b"-");
-        say_number(s.debit - s.credit);
-    }
-}
-
-// The row's own answer, and the account after it: balance, payments and events accepted, service.
-fn say_done(d: Done) {
-    let a = d.account;
-    let s = a.totals;
-    say(b"answer ");
-    say_number(d.answer as u64);
-    say(b", balance ");
-    say_balance(s);
-    say(b", payments ");
-    say_number(s.count as u64);
-    say(b", events ");
-    say_number(s.events as u64);
-    if s.on {
-        say(b", on");
-    } else {
-        say(b", off");
-    }
-}
-
-fn say_row(name: &[u8], d: Done, codes: &[u8]) {
-    say(name);
-    say(b": ");
-    say_done(d);
-    say_codes(codes);
-    say(b"\n");
-}
+// ---- accounts and events
 
 // The paper's terms: 2024-01-01, 1250, 5000, 1000, 50.
 fn fresh() -> Account {
@@ -118,139 +103,122 @@ fn fresh() -> Account {
         cutoff: 1000,
         share: 50,
     });
-    let a = o.account;
-    a
+    o.account
 }
 
-fn event(sort: u32, day: u32) -> Event {
+// An event of kind 1, and of usage day 1, where its sort has these.
+fn event(sort: u32, day: u32, amount: u32, wh: u32) -> Event {
     Event {
         sort,
         day,
-        amount: 0,
+        amount,
         number: 0,
-        kind: 0,
-        usage: 0,
-        wh: 0,
+        kind: 1,
+        usage: 1,
+        wh,
         from: 0,
         to: 0,
     }
 }
 
-// Of an amount: 1 pay, 3 credit, 4 charge of kind 1.
-fn amounted(sort: u32, day: u32, amount: u32) -> Event {
-    let mut e = event(sort, day);
-    e.amount = amount;
-    e.kind = 1;
-    e
-}
-
-// Of a usage day: 5 estimate, 6 read.
-fn used(sort: u32, day: u32, usage: u32, wh: u32) -> Event {
-    let mut e = event(sort, day);
-    e.usage = usage;
-    e.wh = wh;
-    e
-}
-
 // Pay 6000 (0), connect (0), a credit of nothing (3), pay 4000 (0), connect while on (11): three events, B 10000.
 fn five() -> [Event; 5] {
     [
-        amounted(1, 0, 6000),
-        event(11, 0),
-        amounted(3, 0, 0),
-        amounted(1, 0, 4000),
-        event(11, 0),
+        event(1, 0, 6000, 0),
+        event(11, 0, 0, 0),
+        event(3, 0, 0, 0),
+        event(1, 0, 4000, 0),
+        event(11, 0, 0, 0),
     ]
 }
 
-fn none() -> [Event; 0] {
-    []
+// ---- rows
+
+fn posted(a: Account, events: u64, codes: &mut [u8]) -> Done {
+    if events == 0 {
+        return row_of_none(a, [], codes);
+    }
+    row_of_five(a, five(), codes)
+}
+
+fn row(a: Account, events: u64, codes: &mut [u8]) -> Account {
+    let d = posted(a, events, codes);
+    let after = d.account;
+    say(b"row=", events);
+    say(b" answer=", d.answer as u64);
+    say_codes(codes);
+    say_account(after.totals);
+    after
+}
+
+// A row of five events or of none, and a buffer of so many bytes, each of them `fill`.
+fn show_row(a: Account, events: u64, count: usize, fill: u8) -> Account {
+    let mut codes = [fill; 8];
+    if count > 8 {
+        return a;
+    }
+    let first = 0;
+    row(a, events, &mut codes[first..count])
+}
+
+fn show_first(events: u64, count: usize, fill: u8) {
+    show_row(fresh(), events, count, fill);
 }
 
 // Nothing is posted and nothing written where the buffer is one byte short, or empty.
-fn short() {
-    let mut four = [7u8; 4];
-    let d = row_of_five(fresh(), five(), &mut four);
-    say_row(b"five events, four bytes", d, &four);
-    let mut empty = [0u8; 0];
-    let d = row_of_five(fresh(), five(), &mut empty);
-    say_row(b"five events, no byte", d, &empty);
-}
-
-fn long_enough() {
-    let mut exact = [7u8; 5];
-    let d = row_of_five(fresh(), five(), &mut exact);
-    say_row(b"five events, five bytes", d, &exact);
-    let mut more = [200u8; 8];
-    let d = row_of_five(fresh(), five(), &mut more);
-    say_row(b"five events, eight bytes", d, &more);
-}
-
-fn empty_rows() {
-    let mut empty = [0u8; 0];
-    let d = row_of_none(fresh(), none(), &mut empty);
-    say_row(b"no event, no byte", d, &empty);
-    let mut four = [7u8; 4];
-    let d = row_of_none(fresh(), none(), &mut four);
-    say_row(b"no event, four bytes", d, &four);
+fn rows() {
+    show_first(5, 4, 7);
+    show_first(5, 0, 0);
+    show_first(5, 5, 7);
+    show_first(5, 8, 200);
+    show_first(0, 0, 0);
+    show_first(0, 4, 7);
 }
 
 // A row that is answered 16 leaves the account for the next; the same row again connects no more, and pays twice more.
 fn in_turn() {
-    let mut four = [7u8; 4];
-    let mut eight = [9u8; 8];
-    let d = row_of_five(fresh(), five(), &mut four);
-    let a = d.account;
-    let d = row_of_five(a, five(), &mut eight);
-    say_row(b"after 16", d, &eight);
-    let a = d.account;
-    let d = row_of_five(a, five(), &mut eight);
-    say_row(b"once more", d, &eight);
-    let a = d.account;
-    let mut last = [7u8; 4];
-    let d = row_of_none(a, none(), &mut last);
-    say_row(b"then no event", d, &last);
+    let a = show_row(fresh(), 5, 4, 7);
+    let a = show_row(a, 5, 8, 9);
+    let a = show_row(a, 5, 8, 9);
+    show_row(a, 0, 4, 7);
 }
 
-// Posts one event and prints its line as the paper has it.
-fn shown(a: Account, n: u32, e: Event) -> Account {
+// ---- the paper's worked example, event by event
+
+fn say_event(n: u64, answer: Answer, s: Totals) {
+    say(b"n=", n);
+    say(b" code=", answer.code as u64);
+    say(b" value=", answer.value);
+    say_account(s);
+}
+
+fn show(a: Account, n: u64, e: Event) -> Account {
     let o = one_event(a, e);
     let after = o.account;
     let answer = o.answer;
-    let s = after.totals;
-    say(b"n=");
-    say_number(n as u64);
-    say(b" code=");
-    say_number(answer.code as u64);
-    say(b" value=");
-    say_number(answer.value);
-    say(b" balance=");
-    say_balance(s);
-    say(b" plan=");
-    say_number(s.plan);
-    say(b"\n");
+    say_event(n, answer, after.totals);
     after
 }
 
-// The paper's worked example, event by event.
+const SORT: [u32; 10] = [1, 11, 5, 6, 7, 4, 10, 10, 1, 11];
+
+const DAY: [u32; 10] = [0, 0, 2, 3, 3, 3, 3, 4, 5, 5];
+
+const AMOUNT: [u32; 10] = [6000, 0, 0, 0, 0, 4700, 0, 0, 4000, 0];
+
+const WH: [u32; 10] = [0, 0, 30000, 32000, 0, 0, 0, 0, 0, 0];
+
 fn paper() {
-    let a = fresh();
-    let a = shown(a, 1, amounted(1, 0, 6000));
-    let a = shown(a, 2, event(11, 0));
-    let a = shown(a, 3, used(5, 2, 1, 30000));
-    let a = shown(a, 4, used(6, 3, 1, 32000));
-    let a = shown(a, 5, event(7, 3));
-    let a = shown(a, 6, amounted(4, 3, 4700));
-    let a = shown(a, 7, event(10, 3));
-    let a = shown(a, 8, event(10, 4));
-    let a = shown(a, 9, amounted(1, 5, 4000));
-    shown(a, 10, event(11, 5));
+    let mut a = fresh();
+    let mut i = 0;
+    while i < 10 {
+        a = show(a, i as u64 + 1, event(SORT[i], DAY[i], AMOUNT[i], WH[i]));
+        i += 1;
+    }
 }
 
 fn main() {
     paper();
-    short();
-    long_enough();
-    empty_rows();
+    rows();
     in_turn();
 }

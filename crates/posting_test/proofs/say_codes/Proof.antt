@@ -1,9 +1,7 @@
--- `posting_test::say_codes` is safe and ends. The measure is the number of bytes left; nothing has to hold from turn to turn.
--- Assumes nothing.
+-- `posting_test::say_codes` is safe and ends. Assumes nothing.
 use Prim.Native.Nat.{_-_}
-use borrow.Author.Needs.{needs}
-use native.Mathlib.Omega.{arith}
 use lib.ListN.{length}
+use borrow.Author.Needs.{needs}
 use Rattle.posting_test.proofs.say_codes.Statement.{statement}
 use Rattle.posting_test.proofs.say_codes.Tie as tie
 
@@ -13,32 +11,26 @@ Inv-loop codes i₀ i = Unit {0}
 abbrev μ-loop : tie.MeasureT-loop
 μ-loop codes i₀ i = length codes - i
 
-slice-aggregate-say : tie.Need-slice-aggregate-say Inv-loop μ-loop
-slice-aggregate-say c = search needs
-
-say-requires : tie.Need-say-requires Inv-loop μ-loop
-say-requires c κs = tt
-
 loop-holds : tie.Need-loop-holds Inv-loop μ-loop
-loop-holds c = tt
+loop-holds c = search needs
 
-shared-slice-read-say-byte : tie.Need-shared-slice-read-say-byte Inv-loop μ-loop
-shared-slice-read-say-byte c = omega arith
+shared-slice-read-say-code : tie.Need-shared-slice-read-say-code Inv-loop μ-loop
+shared-slice-read-say-code c = search needs
 
-say-byte-requires : tie.Need-say-byte-requires Inv-loop μ-loop
-say-byte-requires c κs = tt
+say-code-requires : tie.Need-say-code-requires Inv-loop μ-loop
+say-code-requires c κs = search needs
 
 add-i : tie.Need-add-i Inv-loop μ-loop
-add-i c = omega arith
+add-i c = search needs
 
 loop-less : tie.Need-loop-less Inv-loop μ-loop
-loop-less c = omega arith
+loop-less c = search needs
 
 loop-again : tie.Need-loop-again Inv-loop μ-loop
-loop-again c = tt
+loop-again c = search needs
 
 returns : tie.Need-returns Inv-loop μ-loop
-returns c = tt
+returns c = search needs
 
 pub say-codes-spec : {M : Type 1} → statement M
 say-codes-spec =
@@ -46,11 +38,9 @@ say-codes-spec =
     (tie.spec
     Inv-loop
     μ-loop
-    slice-aggregate-say
-    say-requires
     loop-holds
-    shared-slice-read-say-byte
-    say-byte-requires
+    shared-slice-read-say-code
+    say-code-requires
     add-i
     loop-less
     loop-again

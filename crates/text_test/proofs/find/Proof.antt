@@ -1,15 +1,15 @@
--- `text_test::cases::mark` meets its contract. Assumes nothing.
+-- `text_test::find` meets its contract. Assumes nothing.
 use Prim.Native.Nat.{_≤_, _-_}
 use lib.ListN.{length}
 use borrow.Author.Needs.{needs}
-use Rattle.text_test.proofs.cases.mark.Statement.{statement}
-use Rattle.text_test.proofs.cases.mark.Tie as tie
+use Rattle.text_test.proofs.find.Statement.{statement}
+use Rattle.text_test.proofs.find.Tie as tie
 
 abbrev Inv-loop : tie.InvT-loop
-Inv-loop cases from i₀ i = (from ≤ i) × (i ≤ length cases)
+Inv-loop text byte i₀ i = i ≤ length text
 
 abbrev μ-loop : tie.MeasureT-loop
-μ-loop cases from i₀ i = length cases - i
+μ-loop text byte i₀ i = length text - i
 
 loop-holds : tie.Need-loop-holds Inv-loop μ-loop
 loop-holds c = search needs
@@ -32,8 +32,8 @@ loop-again c = search needs
 returns-2 : tie.Need-returns-2 Inv-loop μ-loop
 returns-2 c = search needs
 
-pub mark-spec : {M : Type 1} → statement M
-mark-spec =
+pub find-spec : {M : Type 1} → statement M
+find-spec =
     tie.close
     (tie.spec
     Inv-loop
