@@ -9,6 +9,7 @@ use borrow.Author.Tests.{eqb-true, leb-true, leb-false, ltb-false, le-leb}
 use Rattle.calendar.specs.Calendar.{opens, isDay, monthOn}
 use Rattle.calendar.proofs.Sums.{and-left, and-right, leb-and}
 use Rattle.calendar.proofs.Laws.{month-limit}
+use Rattle.tariff.specs.Tariff.{costOf}
 use Rattle.terms.specs.Terms.{validTerms, termsCode, within}
 use Rattle.terms.specs.declared.Terms.{Terms}
 use Rattle.ledger.specs.Event.{inLimits, chargeKinds, markKinds}
@@ -16,6 +17,7 @@ use Rattle.ledger.specs.declared.Event.{Event}
 use Rattle.limits.proofs.Sorts as sorts
 use Rattle.moves.specs.Moves.{isAccount, earlyCode}
 use Rattle.moves.specs.declared.Totals.{Totals}
+use Rattle.moves.proofs.Cost.{cost-limit}
 
 -- a code of 0 is that of the way on
 pub accepts : (b : Bool) (n m : ℕ) → cond b n (suc m) ≡ 0 → (b ≡ true) × (n ≡ 0)
@@ -122,6 +124,10 @@ charge-limits e s h =
 
 pub usage-limits : (e : Event) → (e .sort ≡ 5) ⊎ (e .sort ≡ 6) → inLimits e ≡ true → e .wh ≤ 9999999
 usage-limits e s h = leb-true (e .wh) 9999999 (rw (sorts.usages e s) at h)
+
+-- the cost of a usage day, for an estimate and for a read
+pub cost-on : (t : Terms) (s : Totals) (e : Event) → Early t s e → (e .sort ≡ 5) ⊎ (e .sort ≡ 6) → costOf (e .wh) (t .price) ≤ 9999899
+cost-on t s e k h = cost-limit (e .wh) (t .price) (usage-limits e h (k .limits)) (k .price)
 
 pub record MarkLimits (e : Event) : Type 0 where
   pub kind : Between 1 3 (e .kind)

@@ -2,45 +2,15 @@
 use super::Day;
 use super::Move;
 use super::Usage;
+use super::accept;
 use super::payments::less;
 use super::refuse;
-use super::tally;
 use ledger::Event;
 use terms::Terms;
 ghost use mathlib.Core.Path.{_≡_};
-ghost use Prim.Native.Nat.{suc, _≤_};
-ghost use Rattle.tariff.specs.Tariff.{costOf};
-ghost use Rattle.moves.specs.Moves.{earlyCode, estimateOf, estimatedOf, readOf, meteredOf};
+ghost use Rattle.moves.specs.Moves.{earlyCode, estimateOf, readOf};
 
-// The cost of Wh within their limits at a price within its limits.
-fn day_cost(wh: u32, price: u32) -> u32
-    requires { ⌜ (wh ≤ 9999999) × (price ≤ 99999) ⌝ }
-    ensures { λ r. ⌜ r ≡ costOf wh price ⌝ }
-{
-    tariff::cost(wh, price) as u32
-}
-
-fn estimated(t: Terms, m: Move, e: Event) -> Move
-    requires { ⌜ (earlyCode t (m .totals) e ≡ 0) × (e .sort ≡ 5) × (suc (e .usage) ≤ e .day) ⌝ }
-    ensures { λ r. ⌜ r ≡ estimatedOf t m e ⌝ }
-{
-    let s = m.totals;
-    let cost = day_cost(e.wh, t.price);
-    let mut r = m;
-    r.code = 0;
-    r.value = cost as u64;
-    let day = Day {
-        usage: Usage::Estimated { wh: e.wh, cost },
-    };
-    r.day = day;
-    let mut n = tally(s, e.day);
-    n.debit = s.debit + cost as u64;
-    n.standing = s.standing + cost as u64;
-    r.totals = n;
-    r
-}
-
-pub(crate) fn estimate(t: Terms, m: Move, e: Event) -> Move
+pub(crate) fn estimate(t: Terms, mut m: Move, e: Event) -> Move
     requires { ⌜ (earlyCode t (m .totals) e ≡ 0) × (e .sort ≡ 5) ⌝ }
     ensures { λ r. ⌜ r ≡ estimateOf t m e ⌝ }
 {
@@ -49,35 +19,24 @@ pub(crate) fn estimate(t: Terms, m: Move, e: Event) -> Move
     }
     let d = m.day;
     let u = d.usage;
-    match u {
-        Usage::Blank => estimated(t, m, e),
-        Usage::Estimated { wh: _, cost: _ } => refuse(m, 8),
-        Usage::Metered { wh: _, cost: _ } => refuse(m, 8),
-    }
-}
-
-fn metered(t: Terms, m: Move, e: Event, old: u32) -> Move
-    requires { ⌜ (earlyCode t (m .totals) e ≡ 0) × (e .sort ≡ 6) × (suc (e .usage) ≤ e .day) ⌝ }
-    ensures { λ r. ⌜ r ≡ meteredOf t m e old ⌝ }
-{
-    let s = m.totals;
-    let cost = day_cost(e.wh, t.price);
-    let mut r = m;
-    r.code = 0;
-    r.value = cost as u64;
-    let day = Day {
-        usage: Usage::Metered { wh: e.wh, cost },
+    let Usage::Blank = u else {
+        return refuse(m, 8);
     };
-    r.day = day;
-    let mut n = tally(s, e.day);
-    n.credit = s.credit + old as u64;
-    n.debit = s.debit + cost as u64;
-    n.standing = less(s.standing, old as u64);
-    r.totals = n;
-    r
+    let cost = tariff::cost(e.wh, t.price);
+    let day = Day {
+        usage: Usage::Estimated {
+            wh: e.wh,
+            cost: cost as u32,
+        },
+    };
+    m.day = day;
+    let mut n = m.totals;
+    n.debit = n.debit + cost;
+    n.standing = n.standing + cost;
+    accept(m, n, e.day, cost)
 }
 
-pub(crate) fn read(t: Terms, m: Move, e: Event) -> Move
+pub(crate) fn read(t: Terms, mut m: Move, e: Event) -> Move
     requires { ⌜ (earlyCode t (m .totals) e ≡ 0) × (e .sort ≡ 6) ⌝ }
     ensures { λ r. ⌜ r ≡ readOf t m e ⌝ }
 {
@@ -86,9 +45,23 @@ pub(crate) fn read(t: Terms, m: Move, e: Event) -> Move
     }
     let d = m.day;
     let u = d.usage;
-    match u {
-        Usage::Blank => metered(t, m, e, 0),
-        Usage::Estimated { wh: _, cost } => metered(t, m, e, cost),
-        Usage::Metered { wh: _, cost: _ } => refuse(m, 8),
-    }
+    // the cost of the estimate that the read takes back
+    let old = match u {
+        Usage::Blank => 0,
+        Usage::Estimated { wh: _, cost } => cost,
+        Usage::Metered { wh: _, cost: _ } => return refuse(m, 8),
+    };
+    let cost = tariff::cost(e.wh, t.price);
+    let day = Day {
+        usage: Usage::Metered {
+            wh: e.wh,
+            cost: cost as u32,
+        },
+    };
+    m.day = day;
+    let mut n = m.totals;
+    n.credit = n.credit + old as u64;
+    n.debit = n.debit + cost;
+    n.standing = less(n.standing, old as u64);
+    accept(m, n, e.day, cost)
 }

@@ -4,7 +4,7 @@ use ledger::Event;
 use terms::Terms;
 ghost use mathlib.Core.Path.{_≡_};
 ghost use Prim.Native.Nat.{_<_};
-ghost use Rattle.moves.specs.Moves.{tallied, refusing, moveOf, standing};
+ghost use Rattle.moves.specs.Moves.{tallied, moved, refusing, earlyCode, bySort, moveOf, standing};
 
 mod charges;
 mod days;
@@ -69,28 +69,29 @@ pub struct Move {
     pub to: u32,
 }
 
-fn refuse(m: Move, k: u8) -> Move
+fn refuse(mut m: Move, k: u8) -> Move
     ensures { λ r. ⌜ r ≡ refusing m k ⌝ }
 {
-    let mut r = m;
-    r.code = k;
-    r.value = 0;
-    r
+    m.code = k;
+    m.value = 0;
+    m
 }
 
-// The totals with one more event, of that day.
-fn tally(s: Totals, day: u32) -> Totals
+// The move of an accepted event of that day, with the value: these totals, with one more event.
+fn accept(mut m: Move, mut s: Totals, day: u32, value: u64) -> Move
     requires { ⌜ s .events < 4096 ⌝ }
-    ensures { λ r. ⌜ r ≡ tallied s day ⌝ }
+    ensures { λ r. ⌜ r ≡ moved m (tallied s day) value ⌝ }
 {
-    let mut n = s;
-    n.events = s.events + 1;
-    n.last = day;
-    n
+    s.events = s.events + 1;
+    s.last = day;
+    m.code = 0;
+    m.value = value;
+    m.totals = s;
+    m
 }
 
-// The move of an event, of what stands before it. A refusal moves nothing.
-fn decided<'a>(
+// The move of an event that passed the checks of every event, by its sort.
+fn by_sort<'a>(
     t: Terms,
     m: Move,
     charges: &'a [u64; 75],
@@ -98,32 +99,29 @@ fn decided<'a>(
     warned: &'a [u8; 400],
     e: Event,
 ) -> Move
-    ensures { λ r. ⌜ r ≡ moveOf t m (now (charges .entry)) (now (marks .entry)) (now (warned .entry)) e ⌝ }
+    requires { ⌜ earlyCode t (m .totals) e ≡ 0 ⌝ }
+    ensures { λ r. ⌜ r ≡ bySort t m (now (charges .entry)) (now (marks .entry)) (now (warned .entry)) e ⌝ }
 {
-    let s = m.totals;
-    let early = guard::early(t, s, e);
-    if early != 0 {
-        return refuse(m, early);
-    }
     let sort = e.sort;
     match sort {
-        1 => payments::pay(t, m, e),
-        2 => payments::reverse(t, m, e),
-        3 => payments::credit(t, m, e),
-        4 => charges::charge(t, m, charges, e),
-        5 => days::estimate(t, m, e),
-        6 => days::read(t, m, e),
-        7 => service::warn(t, m, e),
-        8 => service::mark(t, m, e),
-        9 => service::plan(t, m, marks, e),
-        10 => service::disconnect(t, m, marks, warned, e),
-        11 => service::connect(t, m, e),
-        0 | 12..=4294967295 => refuse(m, 3),
+        1 => return payments::pay(t, m, e),
+        2 => return payments::reverse(m, e),
+        3 => return payments::credit(m, e.day, e.amount),
+        4 => return charges::charge(t, m, charges, e),
+        5 => return days::estimate(t, m, e),
+        6 => return days::read(t, m, e),
+        7 => return service::warn(m, e.day),
+        8 => return service::mark(m, e),
+        9 => return service::plan(t, m, marks, e),
+        10 => return service::disconnect(t, m, marks, warned, e),
+        11 => return service::connect(t, m, e),
+        0 | 12..=4294967295 => return refuse(m, 3),
     }
 }
 
 // The move of an event, of the totals, the payment at its number, its usage day, and the charges, marks and warnings as they stand.
-// A number past the payments, or a day past the account's, stands at its remainder: a sort that names the field refuses it.
+// A refusal moves nothing. A number past the payments, or a day past the account's, stands at its remainder: a sort that names the field
+// refuses it.
 pub fn move_of<'a>(
     t: Terms,
     s: Totals,
@@ -151,5 +149,9 @@ pub fn move_of<'a>(
         from: 1,
         to: 0,
     };
-    decided(t, stands, charges, marks, warned, e)
+    let early = guard::early(t, s, e);
+    if early != 0 {
+        return refuse(stands, early);
+    }
+    by_sort(t, stands, charges, marks, warned, e)
 }

@@ -1,13 +1,14 @@
 // Payments, reversals and credits.
 use super::Move;
 use super::Payment;
+use super::accept;
 use super::refuse;
-use super::tally;
 use ledger::Event;
 use terms::Terms;
 ghost use mathlib.Core.Path.{_≡_};
-ghost use Prim.Native.Nat.{_-_, _*_, _/_, _≤_, min};
-ghost use Rattle.moves.specs.Moves.{earlyCode, payOf, reverseOf, creditOf};
+ghost use Prim.Native.Nat.{_-_, _*_, _/_, _<_, _≤_, min};
+ghost use Rattle.terms.specs.declared.Terms.{Terms};
+ghost use Rattle.moves.specs.Moves.{most, tallied, credited, moved, earlyCode, payOf, reverseOf};
 
 // The smaller of the unpaid plan and the share of the amount, rounded down.
 fn plan_part(plan: u64, amount: u32, share: u32) -> u32
@@ -31,7 +32,7 @@ pub(crate) fn less(a: u64, b: u64) -> u64
     a - b
 }
 
-pub(crate) fn pay(t: Terms, m: Move, e: Event) -> Move
+pub(crate) fn pay(t: Terms, mut m: Move, e: Event) -> Move
     requires { ⌜ (earlyCode t (m .totals) e ≡ 0) × (e .sort ≡ 1) ⌝ }
     ensures { λ r. ⌜ r ≡ payOf t m e ⌝ }
 {
@@ -42,64 +43,46 @@ pub(crate) fn pay(t: Terms, m: Move, e: Event) -> Move
     }
     let amount = e.amount;
     let part = plan_part(s.plan, amount, t.share);
-    let mut r = m;
-    r.code = 0;
-    r.value = number as u64;
-    r.number = number;
+    m.number = number;
     let paid = Payment {
         day: e.day,
         amount,
         part,
         reversed: false,
     };
-    r.payment = paid;
-    let mut n = tally(s, e.day);
-    n.credit = s.credit + less(amount as u64, part as u64);
-    n.plan = less(s.plan, part as u64);
+    m.payment = paid;
+    let mut n = s;
+    n.credit = s.credit + (amount - part) as u64;
+    n.plan = s.plan - part as u64;
     n.count = number + 1;
-    r.totals = n;
-    r
+    accept(m, n, e.day, number as u64)
 }
 
-pub(crate) fn reverse(t: Terms, m: Move, e: Event) -> Move
-    requires { ⌜ (earlyCode t (m .totals) e ≡ 0) × (e .sort ≡ 2) ⌝ }
-    ensures { λ r. ⌜ r ≡ reverseOf t m e ⌝ }
+pub(crate) fn reverse(mut m: Move, e: Event) -> Move
+    requires { ⌜ (m .totals .events < 4096) × (m .totals .debit ≤ most) × (m .totals .plan ≤ most) ⌝ }
+    ensures { λ r. ⌜ ((t : Terms) → r ≡ reverseOf t m e) ⌝ }
 {
-    let s = m.totals;
-    if e.number >= s.count {
+    if e.number >= m.totals.count {
         return refuse(m, 6);
     }
     let p = m.payment;
     if p.reversed {
         return refuse(m, 6);
     }
-    let mut r = m;
-    r.code = 0;
-    r.value = 0;
-    let reversed = Payment {
-        day: p.day,
-        amount: p.amount,
-        part: p.part,
-        reversed: true,
-    };
-    r.payment = reversed;
-    let mut n = tally(s, e.day);
-    n.debit = s.debit + less(p.amount as u64, p.part as u64);
-    n.plan = s.plan + p.part as u64;
-    r.totals = n;
-    r
+    let mut back = p;
+    back.reversed = true;
+    m.payment = back;
+    let mut n = m.totals;
+    n.debit = n.debit + less(p.amount as u64, p.part as u64);
+    n.plan = n.plan + p.part as u64;
+    accept(m, n, e.day, 0)
 }
 
-pub(crate) fn credit(t: Terms, m: Move, e: Event) -> Move
-    requires { ⌜ (earlyCode t (m .totals) e ≡ 0) × (e .sort ≡ 3) ⌝ }
-    ensures { λ r. ⌜ r ≡ creditOf t m e ⌝ }
+pub(crate) fn credit(m: Move, day: u32, amount: u32) -> Move
+    requires { ⌜ (m .totals .events < 4096) × (m .totals .credit ≤ most) ⌝ }
+    ensures { λ r. ⌜ r ≡ moved m (credited (tallied (m .totals) day) amount) 0 ⌝ }
 {
-    let s = m.totals;
-    let mut r = m;
-    r.code = 0;
-    r.value = 0;
-    let mut n = tally(s, e.day);
-    n.credit = s.credit + e.amount as u64;
-    r.totals = n;
-    r
+    let mut n = m.totals;
+    n.credit = n.credit + amount as u64;
+    accept(m, n, day, 0)
 }

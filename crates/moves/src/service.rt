@@ -1,61 +1,48 @@
 // Warnings, marks, plans, disconnects and connects.
 use super::Move;
+use super::Totals;
+use super::accept;
 use super::refuse;
-use super::tally;
 use ledger::Event;
 use marks::Found;
 use terms::Terms;
 ghost use mathlib.Core.Path.{_≡_};
-ghost use Prim.Native.Nat.{_≤_};
-ghost use Rattle.moves.specs.Moves.{earlyCode, warnOf, markOf, planOf, deferredOf, disconnectOf, connectOf, servedOf};
+ghost use Prim.Native.Nat.{_<_, _≤_};
+ghost use Rattle.moves.specs.Moves.{most, tallied, serves, warning, marking, moved, earlyCode, planAllowed, planOf, disconnectOf, connectOf};
 
-pub(crate) fn warn(t: Terms, m: Move, e: Event) -> Move
-    requires { ⌜ (earlyCode t (m .totals) e ≡ 0) × (e .sort ≡ 7) ⌝ }
-    ensures { λ r. ⌜ r ≡ warnOf t m e ⌝ }
+pub(crate) fn warn(mut m: Move, day: u32) -> Move
+    requires { ⌜ m .totals .events < 4096 ⌝ }
+    ensures { λ r. ⌜ r ≡ moved (warning m) (tallied (m .totals) day) 0 ⌝ }
 {
     let s = m.totals;
-    let mut r = m;
-    r.code = 0;
-    r.value = 0;
-    r.warned = 1;
-    let n = tally(s, e.day);
-    r.totals = n;
-    r
+    m.warned = 1;
+    accept(m, s, day, 0)
 }
 
-pub(crate) fn mark(t: Terms, m: Move, e: Event) -> Move
-    requires { ⌜ (earlyCode t (m .totals) e ≡ 0) × (e .sort ≡ 8) ⌝ }
-    ensures { λ r. ⌜ r ≡ markOf t m e ⌝ }
+pub(crate) fn mark(mut m: Move, e: Event) -> Move
+    requires { ⌜ m .totals .events < 4096 ⌝ }
+    ensures { λ r. ⌜ r ≡ moved (marking m (e .kind) (e .from) (e .to)) (tallied (m .totals) (e .day)) 0 ⌝ }
 {
     let s = m.totals;
-    let mut r = m;
-    r.code = 0;
-    r.value = 0;
-    r.kind = e.kind;
-    r.from = e.from;
-    r.to = e.to;
-    let n = tally(s, e.day);
-    r.totals = n;
-    r
+    m.kind = e.kind;
+    m.from = e.from;
+    m.to = e.to;
+    accept(m, s, e.day, 0)
 }
 
-fn deferred(t: Terms, m: Move, e: Event) -> Move
-    requires { ⌜ (earlyCode t (m .totals) e ≡ 0) × (m .totals .credit ≤ m .totals .debit) ⌝ }
-    ensures { λ r. ⌜ r ≡ deferredOf t m e ⌝ }
+// Whether the plan kind's condition holds.
+fn allowed(t: Terms, s: Totals, marks: &[u8; 400], e: Event) -> bool
+    requires { ⌜ s .credit ≤ most ⌝ }
+    ensures { λ r. ⌜ r ≡ planAllowed t s (now (marks .entry)) e ⌝ }
 {
-    let s = m.totals;
-    if s.plan > 0 {
-        return refuse(m, 10);
+    if e.kind != 1 {
+        return s.credit < s.debit;
     }
-    let d = t.connect as u64 + s.debit - s.credit;
-    let mut r = m;
-    r.code = 0;
-    r.value = d;
-    let mut n = tally(s, e.day);
-    n.credit = s.credit + d;
-    n.plan = s.plan + d;
-    r.totals = n;
-    r
+    if s.debit < s.credit + 5000 {
+        return false;
+    }
+    let opened = t.opened;
+    marks::weather_near(marks, calendar::weekday_of(opened, e.day), e.day)
 }
 
 pub(crate) fn plan(t: Terms, m: Move, marks: &[u8; 400], e: Event) -> Move
@@ -63,71 +50,61 @@ pub(crate) fn plan(t: Terms, m: Move, marks: &[u8; 400], e: Event) -> Move
     ensures { λ r. ⌜ r ≡ planOf t m (now (marks .entry)) e ⌝ }
 {
     let s = m.totals;
-    let opened = t.opened;
-    if e.kind == 1 {
-        if s.debit < s.credit + 5000 {
-            return refuse(m, 9);
-        }
-        if !marks::weather_near(marks, calendar::weekday_of(opened, e.day), e.day) {
-            return refuse(m, 9);
-        }
-        return deferred(t, m, e);
-    }
-    if s.credit >= s.debit {
+    if !allowed(t, s, marks, e) {
         return refuse(m, 9);
     }
-    deferred(t, m, e)
+    if s.plan > 0 {
+        return refuse(m, 10);
+    }
+    let d = t.connect as u64 + s.debit - s.credit;
+    let mut n = s;
+    n.credit = s.credit + d;
+    n.plan = s.plan + d;
+    accept(m, n, e.day, d)
 }
 
-// The account with service on or off from the event on.
-fn served(t: Terms, m: Move, e: Event, on: bool) -> Move
-    requires { ⌜ earlyCode t (m .totals) e ≡ 0 ⌝ }
-    ensures { λ r. ⌜ r ≡ servedOf t m e on ⌝ }
+// The account with service on or off from the event's day on.
+fn served(m: Move, day: u32, on: bool) -> Move
+    requires { ⌜ m .totals .events < 4096 ⌝ }
+    ensures { λ r. ⌜ r ≡ moved m (serves (tallied (m .totals) day) on) 0 ⌝ }
 {
-    let s = m.totals;
-    let mut r = m;
-    r.code = 0;
-    r.value = 0;
-    let mut n = tally(s, e.day);
+    let mut n = m.totals;
     n.on = on;
-    r.totals = n;
-    r
+    accept(m, n, day, 0)
 }
 
 pub(crate) fn disconnect(t: Terms, m: Move, marks: &[u8; 400], warned: &[u8; 400], e: Event) -> Move
     requires { ⌜ (earlyCode t (m .totals) e ≡ 0) × (e .sort ≡ 10) ⌝ }
     ensures { λ r. ⌜ r ≡ disconnectOf t m (now (marks .entry)) (now (warned .entry)) e ⌝ }
 {
-    let s = m.totals;
-    let opened = t.opened;
-    if !s.on {
+    if !m.totals.on {
         return refuse(m, 11);
     }
-    if s.credit >= s.debit + t.cutoff as u64 {
+    if m.totals.credit >= m.totals.debit + t.cutoff as u64 {
         return refuse(m, 12);
     }
     let Found::At(_) = marks::latest(warned, e.day) else {
         return refuse(m, 13);
     };
+    let opened = t.opened;
     if calendar::weekday_of(opened, e.day) >= 5 {
         return refuse(m, 14);
     }
     if marks::barring(marks, e.day) {
         return refuse(m, 14);
     }
-    served(t, m, e, false)
+    served(m, e.day, false)
 }
 
 pub(crate) fn connect(t: Terms, m: Move, e: Event) -> Move
     requires { ⌜ (earlyCode t (m .totals) e ≡ 0) × (e .sort ≡ 11) ⌝ }
     ensures { λ r. ⌜ r ≡ connectOf t m e ⌝ }
 {
-    let s = m.totals;
-    if s.on {
+    if m.totals.on {
         return refuse(m, 11);
     }
-    if s.credit < s.debit + t.connect as u64 {
+    if m.totals.credit < m.totals.debit + t.connect as u64 {
         return refuse(m, 12);
     }
-    served(t, m, e, true)
+    served(m, e.day, true)
 }

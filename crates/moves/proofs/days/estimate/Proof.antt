@@ -1,69 +1,79 @@
 use borrow.Author.Needs.{needs}
-use borrow.Author.Tests.{le-leb, lt-leb}
-use mathlib.Core.Path.{_≡_, sym, ap, _∙_}
+use native.Mathlib.Omega.{arith}
+use mathlib.Core.Path.{_≡_, refl, sym, ap, _∙_}
 use mathlib.Core.Bool.{false}
-use Prim.Native.Nat.{ℕ}
+use mathlib.Core.Logic.{inl, inr}
+use Prim.Native.Nat.{ℕ, _≤_}
+use mathlib.Core.List.{_∷_, []}
 use lib.Dec.{leb}
+use denote.Enum.Declared.{tagOf}
+use types.Run.{OneOf}
+use borrow.Author.Tests.{le-leb, lt-leb}
 use Rattle.moves.specs.Moves.{estimateOf, estimatedOf, refusing, byUsage}
 use Rattle.moves.specs.declared.Usage.{Usage}
 use Rattle.moves.specs.declared.Usage.the-variants.{Blank, Estimated, Metered}
+use Rattle.moves.specs.declared.Move.{Move}
+use Rattle.moves.proofs.Usage.{the-type}
 use Rattle.moves.proofs.Ways.{no}
+use Rattle.moves.proofs.Early.{Early, early, cost-on}
 use Rattle.moves.proofs.days.estimate.Statement.{statement}
 use Rattle.moves.proofs.days.estimate.Tie as tie
-use Rattle.moves.proofs.days.estimate.Reads as reads
-use Rattle.moves.proofs.days.estimate.Lts as lts
-use Rattle.moves.proofs.days.estimated.Reads as estimated-reads
-use Rattle.moves.proofs.refuse.Reads as refuse-reads
+
+known : (c : tie.Start) → Early (c .args .t) (c .args .m .totals) (c .args .e)
+known c = early _ _ _ (c .pre .0)
 
 -- a usage day before the event's: its state decides
 state : (c : tie.Start) (u : Usage) → let s = c .args in leb (s .e .day) (s .e .usage) ≡ false → s .m .day .usage ≡ u → estimateOf (s .t) (s .m) (s .e) ≡ byUsage u (estimatedOf (s .t) (s .m) (s .e)) (λ (old : ℕ). refusing (s .m) 8) (refusing (s .m) 8)
 unfolding estimateOf
 state c u h k = let s = c .args in no _ _ _ h ∙ ap (λ (x : Usage). byUsage x (estimatedOf (s .t) (s .m) (s .e)) (λ (old : ℕ). refusing (s .m) 8) (refusing (s .m) 8)) k
 
--- src/days.rt:48:9
+taken : (u : Usage) (x y : Move) → OneOf (1 ∷ 2 ∷ []) (tagOf the-type u) → byUsage u x (λ (old : ℕ). y) y ≡ y
+taken Blank x y h = elim h [
+  | inl k ↦ absurd (omega arith)
+  | inr k ↦ absurd (omega arith)
+]
+taken (Estimated wh cost) x y h = refl
+taken (Metered wh cost) x y h = refl
+
+cost : (c : tie.After-cost) → c .cost .result ≤ 9999899
+cost c = let s = c .before .before .before .before .before .before in rw (c .cost .ensures) (cost-on _ _ _ (known s) (inl (s .pre .1)))
+
 refuse-requires : tie.Need-refuse-requires
 refuse-requires c κs = search needs
 
--- src/days.rt:48:9
 returns : tie.Need-returns
 unfolding estimateOf
 returns c = rw (le-leb _ _ (c .before .if1 .taken)) (c .refuse .ensures)
 
--- src/days.rt:53:25
 enum-told : tie.Need-enum-told
 enum-told c = search needs
 
--- src/days.rt:53:25
-estimated-requires : tie.Need-estimated-requires
-estimated-requires c κs = search needs
-
--- src/days.rt:54:48
-enum-told-2 : tie.Need-enum-told-2
-enum-told-2 c = search needs
-
--- src/days.rt:54:48
 refuse-requires-2 : tie.Need-refuse-requires-2
 refuse-requires-2 c κs = search needs
 
--- src/days.rt:55:46
-enum-told-3 : tie.Need-enum-told-3
-enum-told-3 c = search needs
-
--- src/days.rt:55:46
-refuse-requires-3 : tie.Need-refuse-requires-3
-refuse-requires-3 c κs = search needs
-
--- src/days.rt:43:1
 returns-2 : tie.Need-returns-2
-returns-2 c = c .estimated .ensures ∙ sym (state (c .before .before .before .before .before .before) _ (lt-leb _ _ (c .before .before .before .before .if1 .left)) (c .before .enum-told .given .1))
+returns-2 c = let s = c .before .before .before .before .before in
+    let u = s .args .m .day .usage in
+    c .refuse2 .ensures ∙ sym (state s u (lt-leb _ _ (c .before .before .before .if1 .left)) refl ∙ taken u (estimatedOf (s .args .t) (s .args .m) (s .args .e)) (refusing (s .args .m) 8) (c .before .match .keys2))
 
--- src/days.rt:43:1
+cost-requires : tie.Need-cost-requires
+cost-requires c κs = search needs
+
+cast-t10 : tie.Need-cast-t10
+cast-t10 c = omega (arith, cost c)
+
+add-n : tie.Need-add-n
+add-n c = let k = known (c .before .before .before .before .before .before .before .before) in omega (arith, cost (c .before .before))
+
+add-n-2 : tie.Need-add-n-2
+add-n-2 c = let k = known (c .before .before .before .before .before .before .before .before .before) in omega (arith, cost (c .before .before .before))
+
+accept-requires : tie.Need-accept-requires
+accept-requires c κs = known (c .before .before .before .before .before .before .before .before .before) .room
+
 returns-3 : tie.Need-returns-3
-returns-3 c = c .refuse2 .ensures ∙ sym (state (c .before .before .before .before .before .before) _ (lt-leb _ _ (c .before .before .before .before .if1 .left)) (c .before .enum-told2 .given .1))
-
--- src/days.rt:43:1
-returns-4 : tie.Need-returns-4
-returns-4 c = c .refuse3 .ensures ∙ sym (state (c .before .before .before .before .before .before) _ (lt-leb _ _ (c .before .before .before .before .if1 .left)) (c .before .enum-told3 .given .1))
+unfolding estimatedOf
+returns-3 c = rw (state (c .before .before .before .before .before .before .before .before .before .before) Blank (lt-leb _ _ (c .before .before .before .before .before .before .before .before .if1 .left)) (c .before .before .before .before .before .enum-told .given .1), ← c .before .before .before .before .cost .ensures) (c .accept .ensures)
 
 pub estimate-spec : {M : Type 1} → statement M
 estimate-spec =
@@ -72,11 +82,11 @@ estimate-spec =
     refuse-requires
     returns
     enum-told
-    estimated-requires
-    enum-told-2
     refuse-requires-2
-    enum-told-3
-    refuse-requires-3
     returns-2
-    returns-3
-    returns-4)
+    cost-requires
+    cast-t10
+    add-n
+    add-n-2
+    accept-requires
+    returns-3)

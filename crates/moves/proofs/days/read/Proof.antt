@@ -1,69 +1,81 @@
 use borrow.Author.Needs.{needs}
-use borrow.Author.Tests.{le-leb, lt-leb}
+use native.Mathlib.Omega.{arith}
 use mathlib.Core.Path.{_≡_, sym, ap, _∙_}
 use mathlib.Core.Bool.{false}
-use Prim.Native.Nat.{ℕ}
+use mathlib.Core.Logic.{inl, inr}
+use Prim.Native.Nat.{ℕ, _≤_}
 use lib.Dec.{leb}
+use borrow.Author.Tests.{le-leb, lt-leb}
 use Rattle.moves.specs.Moves.{readOf, meteredOf, refusing, byUsage}
 use Rattle.moves.specs.declared.Usage.{Usage}
-use Rattle.moves.specs.declared.Usage.the-variants.{Blank, Estimated, Metered}
 use Rattle.moves.proofs.Ways.{no}
+use Rattle.moves.proofs.Early.{Early, early, cost-on}
 use Rattle.moves.proofs.days.read.Statement.{statement}
 use Rattle.moves.proofs.days.read.Tie as tie
-use Rattle.moves.proofs.days.read.Reads as reads
-use Rattle.moves.proofs.days.read.Lts as lts
-use Rattle.moves.proofs.days.metered.Reads as metered-reads
-use Rattle.moves.proofs.refuse.Reads as refuse-reads
+
+known : (c : tie.Start) → Early (c .args .t) (c .args .m .totals) (c .args .e)
+known c = early _ _ _ (c .pre .0)
 
 -- a usage day before the event's: its state decides
 state : (c : tie.Start) (u : Usage) → let s = c .args in leb (s .e .day) (s .e .usage) ≡ false → s .m .day .usage ≡ u → readOf (s .t) (s .m) (s .e) ≡ byUsage u (meteredOf (s .t) (s .m) (s .e) 0) (λ (old : ℕ). meteredOf (s .t) (s .m) (s .e) old) (refusing (s .m) 8)
 unfolding readOf
 state c u h k = let s = c .args in no _ _ _ h ∙ ap (λ (x : Usage). byUsage x (meteredOf (s .t) (s .m) (s .e) 0) (λ (old : ℕ). meteredOf (s .t) (s .m) (s .e) old) (refusing (s .m) 8)) k
 
--- src/days.rt:85:9
+-- a blank or estimated day is read, and its old cost given back
+metered : (c : tie.At-match-came) → let s = c .before .before .before .before .args in readOf (s .t) (s .m) (s .e) ≡ meteredOf (s .t) (s .m) (s .e) (c .match .old)
+metered c = let s = c .before .before .before .before in
+    let h = lt-leb _ _ (c .before .before .if1 .left) in
+    elim (c .match .came) [
+      | inl w ↦ state s _ h (w .1 .given .1) ∙ ap (meteredOf (s .args .t) (s .args .m) (s .args .e)) (sym (w .2))
+      | inr w ↦ state s _ h (w .1 .given .1) ∙ ap (meteredOf (s .args .t) (s .args .m) (s .args .e)) (sym (w .3))
+    ]
+
+cost : (c : tie.After-cost) → c .cost .result ≤ 9999899
+cost c = let s = c .before .before .before .before .before in rw (c .cost .ensures) (cost-on _ _ _ (known s) (inr (s .pre .1)))
+
 refuse-requires : tie.Need-refuse-requires
 refuse-requires c κs = search needs
 
--- src/days.rt:85:9
 returns : tie.Need-returns
 unfolding readOf
 returns c = rw (le-leb _ _ (c .before .if1 .taken)) (c .refuse .ensures)
 
--- src/days.rt:90:25
 enum-told : tie.Need-enum-told
 enum-told c = search needs
 
--- src/days.rt:90:25
-metered-requires : tie.Need-metered-requires
-metered-requires c κs = search needs
-
--- src/days.rt:91:35
 enum-known-u : tie.Need-enum-known-u
 enum-known-u c = search needs
 
--- src/days.rt:91:45
-metered-requires-2 : tie.Need-metered-requires-2
-metered-requires-2 c κs = search needs
-
--- src/days.rt:92:46
 enum-told-2 : tie.Need-enum-told-2
 enum-told-2 c = search needs
 
--- src/days.rt:92:46
 refuse-requires-2 : tie.Need-refuse-requires-2
 refuse-requires-2 c κs = search needs
 
--- src/days.rt:80:1
 returns-2 : tie.Need-returns-2
-returns-2 c = c .metered .ensures ∙ sym (state (c .before .before .before .before .before .before) _ (lt-leb _ _ (c .before .before .before .before .if1 .left)) (c .before .enum-told .given .1))
+returns-2 c = c .refuse2 .ensures ∙ sym (state (c .before .before .before .before .before .before) _ (lt-leb _ _ (c .before .before .before .before .if1 .left)) (c .before .enum-told2 .given .1))
 
--- src/days.rt:80:1
+cost-requires : tie.Need-cost-requires
+cost-requires c κs = search needs
+
+cast-t13 : tie.Need-cast-t13
+cast-t13 c = omega (arith, cost c)
+
+add-n : tie.Need-add-n
+add-n c = let k = known (c .before .before .before .before .before .before .before .before) in omega arith
+
+add-n-2 : tie.Need-add-n-2
+add-n-2 c = let k = known (c .before .before .before .before .before .before .before .before .before) in omega (arith, cost (c .before .before .before .before))
+
+less-requires : tie.Need-less-requires
+less-requires c κs = search needs
+
+accept-requires : tie.Need-accept-requires
+accept-requires c κs = known (c .before .before .before .before .before .before .before .before .before .before) .room
+
 returns-3 : tie.Need-returns-3
-returns-3 c = c .metered2 .ensures ∙ sym (state (c .before .before .before .before .before .before .before) _ (lt-leb _ _ (c .before .before .before .before .before .if1 .left)) (c .before .before .u .given .1))
-
--- src/days.rt:80:1
-returns-4 : tie.Need-returns-4
-returns-4 c = c .refuse2 .ensures ∙ sym (state (c .before .before .before .before .before .before) _ (lt-leb _ _ (c .before .before .before .before .if1 .left)) (c .before .enum-told2 .given .1))
+unfolding meteredOf
+returns-3 c = rw (metered (c .before .before .before .before .before .before .before), ← c .before .before .before .before .before .before .cost .ensures, ← c .before .less .ensures) (c .accept .ensures)
 
 pub read-spec : {M : Type 1} → statement M
 read-spec =
@@ -72,11 +84,14 @@ read-spec =
     refuse-requires
     returns
     enum-told
-    metered-requires
     enum-known-u
-    metered-requires-2
     enum-told-2
     refuse-requires-2
     returns-2
-    returns-3
-    returns-4)
+    cost-requires
+    cast-t13
+    add-n
+    add-n-2
+    less-requires
+    accept-requires
+    returns-3)

@@ -10,108 +10,84 @@ use Rattle.moves.proofs.Ways.{yes, no}
 use Rattle.moves.proofs.Early.{Early, early}
 use Rattle.moves.proofs.service.disconnect.Statement.{statement}
 use Rattle.moves.proofs.service.disconnect.Tie as tie
-use Rattle.moves.proofs.service.disconnect.Reads as reads
-use Rattle.moves.proofs.service.disconnect.Lts as lts
-use Rattle.calendar.proofs.weekday_of.Reads as weekday-of-reads
-use Rattle.marks.proofs.barring.Reads as barring-reads
-use Rattle.marks.proofs.latest.Reads as latest-reads
-use Rattle.moves.proofs.refuse.Reads as refuse-reads
-use Rattle.moves.proofs.service.served.Reads as served-reads
 
 known : (c : tie.Start) → Early (c .args .t) (c .args .m .totals) (c .args .e)
 known c = early _ _ _ (c .pre .0)
 
 -- a warning was found, so the days' bars decide
 abbrev start : tie.After-enum-told → tie.Start
-start c = c .before .before .before .before .before .before .before .before .before .before .before
+start c = c .before .before .before .before .before .before .before .before .before
 
 warning : (c : tie.After-enum-told) → let s = start c .args in disconnectOf (s .t) (s .m) (now (s .marks)) (now (s .warned)) (s .e) ≡ cond (barredOn (s .t) (now (s .marks)) (s .e)) (refusing (s .m) 14) (servedOf (s .t) (s .m) (s .e) false)
 unfolding disconnectOf
 warning c = no _ _ _ (c .before .before .before .before .before .before .before .if1 .left) ∙ no _ _ _ (lt-leb _ _ (c .before .before .before .if2 .left)) ∙ no _ _ _ (ap isMissing (sym (c .before .before .latest .ensures) ∙ c .enum-told .given .1))
 
-weekend : (c : tie.Then3) → let s = start (c .before .before) .args in barredOn (s .t) (now (s .marks)) (s .e) ≡ true
+weekend : (c : tie.Then3) → let s = start (c .before .before .before) .args in barredOn (s .t) (now (s .marks)) (s .e) ≡ true
 weekend c = rw (← c .before .weekday-of .ensures, le-leb _ _ (c .if3 .taken))
 
-on-weekday : (c : tie.Else3) → let s = start (c .before .before) .args in barredOn (s .t) (now (s .marks)) (s .e) ≡ barringOn (now (s .marks)) (s .e .day)
+on-weekday : (c : tie.Else3) → let s = start (c .before .before .before) .args in barredOn (s .t) (now (s .marks)) (s .e) ≡ barringOn (now (s .marks)) (s .e .day)
 on-weekday c = rw (← c .before .weekday-of .ensures, lt-leb _ _ (c .if3 .left))
 
--- src/service.rt:110:9
 refuse-requires : tie.Need-refuse-requires
 refuse-requires c κs = search needs
 
--- src/service.rt:110:9
 returns : tie.Need-returns
 unfolding disconnectOf
 returns c = c .refuse .ensures ∙ sym (yes _ _ _ (c .before .if1 .taken))
 
--- src/service.rt:112:30
 cast-if2 : tie.Need-cast-if2
 cast-if2 c = search needs
 
--- src/service.rt:112:20
 add-if2 : tie.Need-add-if2
-add-if2 c = let k = known (c .before .before .before .before .before .before) in omega arith
+add-if2 c = let k = known (c .before .before .before .before) in omega arith
 
--- src/service.rt:113:9
 refuse-requires-2 : tie.Need-refuse-requires-2
 refuse-requires-2 c κs = search needs
 
--- src/service.rt:113:9
 returns-2 : tie.Need-returns-2
 unfolding disconnectOf
 returns-2 c = c .refuse2 .ensures ∙ sym (no _ _ _ (c .before .before .before .before .before .if1 .left) ∙ yes _ _ _ (le-leb _ _ (c .before .if2 .taken)))
 
--- src/service.rt:115:24
 latest-requires : tie.Need-latest-requires
 latest-requires c κs = search needs
 
 enum-told : tie.Need-enum-told
 enum-told c = search needs
 
--- src/service.rt:116:9
 enum-told-2 : tie.Need-enum-told-2
 enum-told-2 c = search needs
 
--- src/service.rt:116:9
 refuse-requires-3 : tie.Need-refuse-requires-3
 refuse-requires-3 c κs = search needs
 
--- src/service.rt:116:9
 returns-3 : tie.Need-returns-3
 unfolding disconnectOf
 returns-3 c = c .refuse3 .ensures ∙ sym (no _ _ _ (c .before .before .before .before .before .before .before .before .if1 .left) ∙ no _ _ _ (lt-leb _ _ (c .before .before .before .before .if2 .left)) ∙ yes _ _ _ (ap isMissing (sym (c .before .before .before .latest .ensures) ∙ c .before .enum-told2 .given .1)))
 
--- src/service.rt:118:8
 weekday-of-requires : tie.Need-weekday-of-requires
 weekday-of-requires c κs = search needs
 
--- src/service.rt:119:9
 refuse-requires-4 : tie.Need-refuse-requires-4
 refuse-requires-4 c κs = search needs
 
--- src/service.rt:119:9
 returns-4 : tie.Need-returns-4
-returns-4 c = c .refuse4 .ensures ∙ sym (warning (c .before .before .before) ∙ yes _ _ _ (weekend (c .before)))
+returns-4 c = c .refuse4 .ensures ∙ sym (warning (c .before .before .before .before) ∙ yes _ _ _ (weekend (c .before)))
 
--- src/service.rt:121:8
 barring-requires : tie.Need-barring-requires
 barring-requires c κs = search needs
 
--- src/service.rt:122:9
 refuse-requires-5 : tie.Need-refuse-requires-5
 refuse-requires-5 c κs = search needs
 
--- src/service.rt:122:9
 returns-5 : tie.Need-returns-5
-returns-5 c = c .refuse5 .ensures ∙ sym (warning (c .before .before .before .before .before) ∙ yes _ _ _ (on-weekday (c .before .before .before) ∙ sym (c .before .before .barring .ensures) ∙ c .before .if4 .taken))
+returns-5 c = c .refuse5 .ensures ∙ sym (warning (c .before .before .before .before .before .before) ∙ yes _ _ _ (on-weekday (c .before .before .before) ∙ sym (c .before .before .barring .ensures) ∙ c .before .if4 .taken))
 
--- src/service.rt:124:5
 served-requires : tie.Need-served-requires
-served-requires c κs = search needs
+served-requires c κs = known (start (c .before .before .before .before .before)) .room
 
--- src/service.rt:97:1
 returns-6 : tie.Need-returns-6
-returns-6 c = c .served .ensures ∙ sym (warning (c .before .before .before .before .before) ∙ no _ _ _ (on-weekday (c .before .before .before) ∙ sym (c .before .before .barring .ensures) ∙ c .before .if4 .left))
+unfolding servedOf
+returns-6 c = c .served .ensures ∙ sym (warning (c .before .before .before .before .before .before) ∙ no _ _ _ (on-weekday (c .before .before .before) ∙ sym (c .before .before .barring .ensures) ∙ c .before .if4 .left))
 
 pub disconnect-spec : {M : Type 1} → statement M
 disconnect-spec =

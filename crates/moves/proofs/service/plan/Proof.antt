@@ -1,98 +1,83 @@
 use borrow.Author.Needs.{needs}
 use mathlib.Core.Path.{_≡_, sym, _∙_}
+use mathlib.Core.Bool.{Bool, true, false, cond, _&&_}
+use Prim.Native.Nat.{ℕ, _+_, _≤_}
+use lib.Dec.{leb, ltb, eqb}
 use denote.Ref.{now}
 use native.Mathlib.Omega.{arith}
-use borrow.Author.Tests.{eq-eqb, ne-eqb, le-leb, lt-leb, lt-ltb, le-ltb, not-true, not-false}
-use Rattle.moves.specs.Moves.{planAllowed, planOf}
+use borrow.Author.Tests.{lt-ltb, le-ltb, ltb-true, not-true, not-false}
+use Rattle.calendar.specs.Calendar.{weekdayOn}
+use Rattle.calendar.proofs.Sums.{leb-and}
+use Rattle.marks.specs.Marks.{weatherNear}
+use Rattle.moves.specs.Moves.{planOf, deferredOf}
 use Rattle.moves.proofs.Ways.{yes, no}
 use Rattle.moves.proofs.Early.{Early, early}
 use Rattle.moves.proofs.service.plan.Statement.{statement}
 use Rattle.moves.proofs.service.plan.Tie as tie
-use Rattle.moves.proofs.service.plan.Reads as reads
-use Rattle.moves.proofs.service.plan.Lts as lts
-use Rattle.calendar.proofs.weekday_of.Reads as weekday-of-reads
-use Rattle.marks.proofs.weather_near.Reads as weather-near-reads
-use Rattle.moves.proofs.refuse.Reads as refuse-reads
-use Rattle.moves.proofs.service.deferred.Reads as deferred-reads
 
 known : (c : tie.Start) → Early (c .args .t) (c .args .m .totals) (c .args .e)
 known c = early _ _ _ (c .pre .0)
 
--- kind 1 below its balance: the weather decides
-weather : (c : tie.After-weather-near) → let s = c .before .before .before .before .before .before .before .before .before .args in planAllowed (s .t) (s .m .totals) (now (s .marks)) (s .e) ≡ c .weather-near .result
-weather c = rw (eq-eqb _ _ (c .before .before .before .before .before .if1 .taken), le-leb _ _ (c .before .before .if2 .left), ← c .before .weekday-of .ensures) (sym (c .weather-near .ensures))
+-- a plan that is allowed has a debt to defer
+below : (b w : Bool) (credit debit : ℕ) → cond b (leb (credit + 5000) debit && w) (ltb credit debit) ≡ true → credit ≤ debit
+below true w credit debit h = omega (arith, leb-and (credit + 5000) debit w h .0)
+below false w credit debit h = omega (arith, ltb-true credit debit h)
 
--- src/service.rt:68:22
-add-if2 : tie.Need-add-if2
-add-if2 c = let k = known (c .before .before .before .before .before) in omega arith
+debt : (c : tie.Else1) → let s = c .before .before .before .args .m .totals in s .credit ≤ s .debit
+debt c = let s = c .before .before .before .args in below (eqb (s .e .kind) 1) (weatherNear (now (s .marks)) (weekdayOn (s .t .opened) (s .e .day)) (s .e .day)) _ _ (sym (c .before .allowed .ensures) ∙ not-false _ (c .if1 .left))
 
--- src/service.rt:69:13
+allowed-requires : tie.Need-allowed-requires
+allowed-requires c κs = known (c .before) .credit
+
 refuse-requires : tie.Need-refuse-requires
 refuse-requires c κs = search needs
 
--- src/service.rt:69:13
 returns : tie.Need-returns
 unfolding planOf
-returns c = rw (eq-eqb _ _ (c .before .before .before .before .if1 .taken), lt-leb _ _ (c .before .if2 .taken)) (c .refuse .ensures)
+returns c = c .refuse .ensures ∙ sym (no _ _ _ (sym (c .before .before .allowed .ensures) ∙ not-true _ (c .before .if1 .taken)))
 
--- src/service.rt:71:40
-weekday-of-requires : tie.Need-weekday-of-requires
-weekday-of-requires c κs = search needs
-
--- src/service.rt:71:13
-weather-near-requires : tie.Need-weather-near-requires
-weather-near-requires c κs = search needs
-
--- src/service.rt:72:13
 refuse-requires-2 : tie.Need-refuse-requires-2
 refuse-requires-2 c κs = search needs
 
--- src/service.rt:72:13
 returns-2 : tie.Need-returns-2
-unfolding planOf
-returns-2 c = c .refuse2 .ensures ∙ sym (no _ _ _ (weather (c .before .before) ∙ not-true _ (c .before .if3 .taken)))
+unfolding planOf deferredOf
+returns-2 c = c .refuse2 .ensures ∙ sym (yes _ _ _ (sym (c .before .before .before .before .allowed .ensures) ∙ not-false _ (c .before .before .before .if1 .left)) ∙ yes _ _ _ (lt-ltb _ _ (c .before .if2 .taken)))
 
--- src/service.rt:74:9
-deferred-requires : tie.Need-deferred-requires
-deferred-requires c κs = search needs
+cast-d : tie.Need-cast-d
+cast-d c = search needs
 
--- src/service.rt:74:9
+add-d : tie.Need-add-d
+add-d c = let k = known (c .before .before .before .before .before .before .before) in omega arith
+
+sub-d : tie.Need-sub-d
+sub-d c = omega (arith, debt (c .before .before .before .before .before))
+
+add-n : tie.Need-add-n
+add-n c = let k = known (c .before .before .before .before .before .before .before .before .before) in omega arith
+
+add-n-2 : tie.Need-add-n-2
+add-n-2 c = let k = known (c .before .before .before .before .before .before .before .before .before .before) in omega arith
+
+accept-requires : tie.Need-accept-requires
+accept-requires c κs = known (c .before .before .before .before .before .before .before .before .before .before) .room
+
 returns-3 : tie.Need-returns-3
-unfolding planOf
-returns-3 c = c .deferred .ensures ∙ sym (yes _ _ _ (weather (c .before .before) ∙ not-false _ (c .before .if3 .left)))
-
--- src/service.rt:77:9
-refuse-requires-3 : tie.Need-refuse-requires-3
-refuse-requires-3 c κs = search needs
-
--- src/service.rt:77:9
-returns-4 : tie.Need-returns-4
-unfolding planOf
-returns-4 c = rw (ne-eqb _ _ (c .before .before .before .if1 .left), le-ltb _ _ (c .before .if4 .taken)) (c .refuse3 .ensures)
-
--- src/service.rt:79:5
-deferred-requires-2 : tie.Need-deferred-requires-2
-deferred-requires-2 c κs = search needs
-
--- src/service.rt:61:1
-returns-5 : tie.Need-returns-5
-unfolding planOf
-returns-5 c = rw (ne-eqb _ _ (c .before .before .before .if1 .left), lt-ltb _ _ (c .before .if4 .left)) (c .deferred2 .ensures)
+unfolding planOf deferredOf
+returns-3 c = c .accept .ensures ∙ sym (yes _ _ _ (sym (c .before .before .before .before .before .before .before .before .before .allowed .ensures) ∙ not-false _ (c .before .before .before .before .before .before .before .before .if1 .left)) ∙ no _ _ _ (le-ltb _ _ (c .before .before .before .before .before .before .if2 .left)))
 
 pub plan-spec : {M : Type 1} → statement M
 plan-spec =
     tie.close
     (tie.spec
-    add-if2
+    allowed-requires
     refuse-requires
     returns
-    weekday-of-requires
-    weather-near-requires
     refuse-requires-2
     returns-2
-    deferred-requires
-    returns-3
-    refuse-requires-3
-    returns-4
-    deferred-requires-2
-    returns-5)
+    cast-d
+    add-d
+    sub-d
+    add-n
+    add-n-2
+    accept-requires
+    returns-3)

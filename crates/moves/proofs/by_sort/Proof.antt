@@ -1,0 +1,131 @@
+use borrow.Author.Needs.{needs}
+use mathlib.Core.Path.{_≡_, sym, _∙_}
+use mathlib.Core.Logic.{_⊎_, inl, inr}
+use Prim.Native.Nat.{ℕ, _+_, _≤_, zero-le}
+use native.Mathlib.Omega.{arith}
+use Rattle.moves.specs.Moves.{creditOf, warnOf, markOf}
+use Rattle.moves.proofs.Early.{Early, early, no-other}
+use Rattle.moves.proofs.Arms as arms
+use Rattle.moves.proofs.by_sort.Statement.{statement}
+use Rattle.moves.proofs.by_sort.Tie as tie
+use Rattle.moves.proofs.by_sort.Reads as reads
+
+-- a number that is none of the next six
+six : (n low : ℕ) → low ≤ n → (n ≡ low → ⊥) → (n ≡ low + 1 → ⊥) → (n ≡ low + 2 → ⊥) → (n ≡ low + 3 → ⊥) → (n ≡ low + 4 → ⊥) → (n ≡ low + 5 → ⊥) → low + 6 ≤ n
+six n low h a b c d e f = omega arith
+
+-- in the last arm the sort is none of the others
+other : (c : tie.At-match-came) → let n = c .before .args .e .sort in (n ≡ 0) ⊎ (12 ≤ n)
+other c = elim (c .match .came) [
+  | inl w ↦ inl (w .keys12)
+  | inr w ↦ let r = w .rest .0 in
+      let low = r .0 .0 .0 .0 .0 .0 in
+      inr (six _ 6 (six _ 0 zero-le (w .rest .1) (low .0 .0 .0 .0 .1) (low .0 .0 .0 .1) (low .0 .0 .1) (low .0 .1) (low .1)) (r .0 .0 .0 .0 .0 .1) (r .0 .0 .0 .0 .1) (r .0 .0 .0 .1) (r .0 .0 .1) (r .0 .1) (r .1))
+]
+
+known : (c : tie.Start) → Early (c .args .t) (c .args .m .totals) (c .args .e)
+known c = early _ _ _ (c .pre)
+
+pay-requires : tie.Need-pay-requires
+pay-requires c κs = (c .before .pre, c .match .keys1)
+
+returns : tie.Need-returns
+returns c = c .pay .ensures ∙ sym (arms.pays _ _ _ _ _ _ (c .before .match .keys1))
+
+reverse-requires : tie.Need-reverse-requires
+reverse-requires c κs = let k = known (c .before) in (k .room, k .debit, k .plan)
+
+returns-2 : tie.Need-returns-2
+returns-2 c = c .reverse .ensures _ ∙ sym (arms.reverses _ _ _ _ _ _ (c .before .match .keys2))
+
+credit-requires : tie.Need-credit-requires
+credit-requires c κs = let k = known (c .before) in (k .room, k .credit)
+
+returns-3 : tie.Need-returns-3
+unfolding creditOf
+returns-3 c = c .credit .ensures ∙ sym (arms.credits _ _ _ _ _ _ (c .before .match .keys3))
+
+charge-requires : tie.Need-charge-requires
+charge-requires c κs = (c .before .pre, c .match .keys4)
+
+returns-4 : tie.Need-returns-4
+returns-4 c = c .charge .ensures ∙ sym (arms.charged _ _ _ _ _ _ (c .before .match .keys4))
+
+estimate-requires : tie.Need-estimate-requires
+estimate-requires c κs = (c .before .pre, c .match .keys5)
+
+returns-5 : tie.Need-returns-5
+returns-5 c = c .estimate .ensures ∙ sym (arms.estimates _ _ _ _ _ _ (c .before .match .keys5))
+
+read-requires : tie.Need-read-requires
+read-requires c κs = (c .before .pre, c .match .keys6)
+
+returns-6 : tie.Need-returns-6
+returns-6 c = c .read .ensures ∙ sym (arms.reads _ _ _ _ _ _ (c .before .match .keys6))
+
+warn-requires : tie.Need-warn-requires
+warn-requires c κs = known (c .before) .room
+
+returns-7 : tie.Need-returns-7
+unfolding warnOf
+returns-7 c = c .warn .ensures ∙ sym (arms.warns _ _ _ _ _ _ (c .before .match .keys7))
+
+mark-requires : tie.Need-mark-requires
+mark-requires c κs = known (c .before) .room
+
+returns-8 : tie.Need-returns-8
+unfolding markOf
+returns-8 c = c .mark .ensures ∙ sym (arms.marked _ _ _ _ _ _ (c .before .match .keys8))
+
+plan-requires : tie.Need-plan-requires
+plan-requires c κs = (c .before .pre, c .match .keys9)
+
+returns-9 : tie.Need-returns-9
+returns-9 c = c .plan .ensures ∙ sym (arms.plans _ _ _ _ _ _ (c .before .match .keys9))
+
+disconnect-requires : tie.Need-disconnect-requires
+disconnect-requires c κs = (c .before .pre, c .match .keys10)
+
+returns-10 : tie.Need-returns-10
+returns-10 c = c .disconnect .ensures ∙ sym (arms.disconnects _ _ _ _ _ _ (c .before .match .keys10))
+
+connect-requires : tie.Need-connect-requires
+connect-requires c κs = (c .before .pre, c .match .keys11)
+
+returns-11 : tie.Need-returns-11
+returns-11 c = c .connect .ensures ∙ sym (arms.connects _ _ _ _ _ _ (c .before .match .keys11))
+
+refuse-requires : tie.Need-refuse-requires
+refuse-requires c κs = search needs
+
+returns-12 : tie.Need-returns-12
+returns-12 c = absurd (no-other _ (known (c .before .before) .limits) (other (c .before)))
+
+pub by-sort-spec : {M : Type 1} → statement M
+by-sort-spec =
+    tie.close
+    (tie.spec
+    pay-requires
+    returns
+    reverse-requires
+    returns-2
+    credit-requires
+    returns-3
+    charge-requires
+    returns-4
+    estimate-requires
+    returns-5
+    read-requires
+    returns-6
+    warn-requires
+    returns-7
+    mark-requires
+    returns-8
+    plan-requires
+    returns-9
+    disconnect-requires
+    returns-10
+    connect-requires
+    returns-11
+    refuse-requires
+    returns-12)
