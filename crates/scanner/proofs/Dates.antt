@@ -1,29 +1,30 @@
 -- A date's value, two digits at a time. Assumes nothing.
-use mathlib.Core.Path.{_≡_, refl}
-use mathlib.Core.Bool.{Bool, true, false, cond, _&&_, and-assoc, and-false}
+use mathlib.Core.Path.{_≡_}
+use mathlib.Core.Bool.{Bool, true, false, _&&_, and-assoc, and-false}
 use mathlib.Core.List.{List}
-use Prim.Native.Nat.{ℕ, _+_, _*_, _≤_}
+use Prim.Native.Nat.{ℕ, _+_, _*_, _≤_, _<_}
 use native.Mathlib.Omega.{arith}
 use lib.ListN.{length, getD}
 use lib.Dec.{eqb}
 use borrow.Author.Tests.{ne-eqb}
 use Rattle.scanner.specs.Scanner.{hyphen, isDigit, isDate, pair, dateValue}
-use Rattle.scanner.specs.Places.{pairOf, dateOf}
-use Rattle.scanner.specs.declared.Number.the-variants as number
-use Rattle.scanner.specs.declared.Dated.the-variants as dated
-use Rattle.scanner.proofs.Digits.{both-left, both-right, digit-high}
+use Rattle.scanner.specs.Places.{digitOf, pairOf, dateOf}
+use Rattle.scanner.specs.declared.DateRead.the-variants.{Got, Broken}
+use Rattle.scanner.proofs.Digits.{both-left, both-right, digit-high, none-by, some-by, no-digit, a-digit}
 
-wrong-of : (b : Bool) (m : ℕ) → number.Wrong ≡ cond b (number.Is m) number.Wrong → b ≡ false
-wrong-of true m e = absurd (let z : _≡_ {A = ℕ} 0 1 = cc in omega arith)
-wrong-of false m e = refl
+-- the two bytes at a place
+module _ (v : List ℕ) (i a b : ℕ) (d : a ≡ digitOf (getD v i 0)) (e : b ≡ digitOf (getD v (i + 1) 0)) where
+  pub no-tens : 9 < a → 100 ≡ pairOf v i
+  no-tens h = simp (no-digit (getD v i 0) a d h)
 
-right-of : (b : Bool) (m n : ℕ) → number.Is n ≡ cond b (number.Is m) number.Wrong → b ≡ true
-right-of true m n e = refl
-right-of false m n e = absurd (let z : _≡_ {A = ℕ} 0 1 = cc in omega arith)
+  pub no-units : 9 < b → 100 ≡ pairOf v i
+  no-units h = simp (no-digit (getD v (i + 1) 0) b e h, and-false)
 
-value-of : (b : Bool) (m n : ℕ) → number.Is n ≡ cond b (number.Is m) number.Wrong → n ≡ m
-value-of true m n e = cc
-value-of false m n e = absurd (let z : _≡_ {A = ℕ} 0 1 = cc in omega arith)
+  pub a-pair : a ≤ 9 → b ≤ 9 → a * 10 + b ≡ pairOf v i
+  a-pair h g =
+      let x = a-digit (getD v i 0) a d h in
+      let y = a-digit (getD v (i + 1) 0) b e g in
+      simp (x .0, y .0, x .1, y .1)
 
 module _ (v : List ℕ) where
   -- two digits
@@ -34,49 +35,50 @@ module _ (v : List ℕ) where
   unfolding isDate
   grouped = simp and-assoc
 
-  pub other-size : (length v ≡ 10 → ⊥) → dated.Wrong ≡ dateOf v
-  other-size n = simp (grouped, ne-eqb (length v) 10 n)
+  high : (i : ℕ) → two i ≡ true → pair (getD v i 0) (getD v (i + 1) 0) < 100
+  high i t =
+      let a : getD v i 0 ≤ 57 = digit-high (getD v i 0) (both-left (isDigit (getD v i 0)) _ t) in
+      let b : getD v (i + 1) 0 ≤ 57 = digit-high (getD v (i + 1) 0) (both-right (isDigit (getD v i 0)) _ t) in
+      omega arith
 
-  module _ (l : length v ≡ 10) where
-    pub no-first-hyphen : (getD v 4 0 ≡ hyphen → ⊥) → dated.Wrong ≡ dateOf v
-    no-first-hyphen n = simp (grouped, l, ne-eqb (getD v 4 0) hyphen n)
+  bad : (i n : ℕ) → n ≡ pairOf v i → 99 < n → two i ≡ false
+  bad i n e h = none-by (two i) (pair (getD v i 0) (getD v (i + 1) 0)) 100 n (high i) e h
 
-    module _ (h : getD v 4 0 ≡ hyphen) where
-      pub no-second-hyphen : (getD v 7 0 ≡ hyphen → ⊥) → dated.Wrong ≡ dateOf v
-      no-second-hyphen n = simp (grouped, l, h, ne-eqb (getD v 7 0) hyphen n)
+  good : (i n : ℕ) → n ≡ pairOf v i → n ≤ 99 → (two i ≡ true) × (n ≡ pair (getD v i 0) (getD v (i + 1) 0))
+  good i n e h = some-by (two i) (pair (getD v i 0) (getD v (i + 1) 0)) 100 n e (omega arith)
 
-  bad : (i : ℕ) → number.Wrong ≡ pairOf v i → two i ≡ false
-  bad i e = wrong-of (two i) _ e
+  module _ (next : ℕ) where
+    pub other-size : (length v ≡ 10 → ⊥) → Broken ≡ dateOf v next
+    other-size n = simp (grouped, ne-eqb (length v) 10 n)
 
-  good : (i n : ℕ) → number.Is n ≡ pairOf v i → two i ≡ true
-  good i n e = right-of (two i) _ n e
+    module _ (l : length v ≡ 10) where
+      pub no-first-hyphen : (getD v 4 0 ≡ hyphen → ⊥) → Broken ≡ dateOf v next
+      no-first-hyphen n = simp (grouped, l, ne-eqb (getD v 4 0) hyphen n)
 
-  value-at : (i n : ℕ) → number.Is n ≡ pairOf v i → n ≡ pair (getD v i 0) (getD v (i + 1) 0)
-  value-at i n e = value-of (two i) _ n e
+      module _ (h : getD v 4 0 ≡ hyphen) where
+        pub no-second-hyphen : (getD v 7 0 ≡ hyphen → ⊥) → Broken ≡ dateOf v next
+        no-second-hyphen n = simp (grouped, l, h, ne-eqb (getD v 7 0) hyphen n)
 
-  -- the number of two digits is at most 99
-  pub small : (i n : ℕ) → number.Is n ≡ pairOf v i → n ≤ 99
-  small i n e =
-      let a : getD v i 0 ≤ 57 = digit-high (getD v i 0) (both-left (isDigit (getD v i 0)) _ (good i n e)) in
-      let b : getD v (i + 1) 0 ≤ 57 = digit-high (getD v (i + 1) 0) (both-right (isDigit (getD v i 0)) _ (good i n e)) in
-      omega (arith, value-at i n e)
+        module _ (g : getD v 7 0 ≡ hyphen) (n : ℕ) where
+          pub no-century : n ≡ pairOf v 0 → 99 < n → Broken ≡ dateOf v next
+          no-century e w = simp (grouped, l, h, g, bad 0 n e w)
 
-  module _ (l : length v ≡ 10) (h : getD v 4 0 ≡ hyphen) (g : getD v 7 0 ≡ hyphen) where
-    pub no-century : number.Wrong ≡ pairOf v 0 → dated.Wrong ≡ dateOf v
-    no-century w = simp (grouped, l, h, g, bad 0 w)
+          pub no-years : n ≡ pairOf v 2 → 99 < n → Broken ≡ dateOf v next
+          no-years e w = simp (grouped, l, h, g, bad 2 n e w, and-false)
 
-    pub no-years : number.Wrong ≡ pairOf v 2 → dated.Wrong ≡ dateOf v
-    no-years w = simp (grouped, l, h, g, bad 2 w, and-false)
+          pub no-month : n ≡ pairOf v 5 → 99 < n → Broken ≡ dateOf v next
+          no-month e w = simp (grouped, l, h, g, bad 5 n e w, and-false)
 
-    pub no-month : number.Wrong ≡ pairOf v 5 → dated.Wrong ≡ dateOf v
-    no-month w = simp (grouped, l, h, g, bad 5 w, and-false)
+          pub no-day : n ≡ pairOf v 8 → 99 < n → Broken ≡ dateOf v next
+          no-day e w = simp (grouped, l, h, g, bad 8 n e w, and-false)
 
-    pub no-day : number.Wrong ≡ pairOf v 8 → dated.Wrong ≡ dateOf v
-    no-day w = simp (grouped, l, h, g, bad 8 w, and-false)
-
-    pub whole-date : (a b m d : ℕ) → number.Is a ≡ pairOf v 0 → number.Is b ≡ pairOf v 2 → number.Is m ≡ pairOf v 5 → number.Is d ≡ pairOf v 8
-        → dated.Is (record { year = a * 100 + b; month = m; day = d }) ≡ dateOf v
-    unfolding dateValue
-    whole-date a b m d ea eb em ed =
-        simp
-        (grouped, l, h, g, good 0 a ea, good 2 b eb, good 5 m em, good 8 d ed, value-at 0 a ea, value-at 2 b eb, value-at 5 m em, value-at 8 d ed)
+        module _ (g : getD v 7 0 ≡ hyphen) (a b m d : ℕ) where
+          pub whole-date : (a ≡ pairOf v 0) × (a ≤ 99) → (b ≡ pairOf v 2) × (b ≤ 99) → (m ≡ pairOf v 5) × (m ≤ 99) → (d ≡ pairOf v 8) × (d ≤ 99)
+              → Got (record { year = a * 100 + b; month = m; day = d }) next ≡ dateOf v next
+          unfolding dateValue
+          whole-date p q r t =
+              let x = good 0 a (p .0) (p .1) in
+              let y = good 2 b (q .0) (q .1) in
+              let z = good 5 m (r .0) (r .1) in
+              let w = good 8 d (t .0) (t .1) in
+              simp (grouped, l, h, g, x .0, y .0, z .0, w .0, x .1, y .1, z .1, w .1)

@@ -59,17 +59,17 @@ after-rest (a ∷ p) [] = tt
 after-rest (a ∷ p) (b ∷ l) = rest-turn a b p l (eqb a b) (after p l) (after-rest p l)
 
 module _ (key s : List ℕ) where
-  value-rest : (l r : List ℕ) (x : Read (List ℕ)) → length s ≡ length l + (length r + 1) → Rest (key ++ equals ∷ []) l x → Split s (length key + 2) (then x (λ (v none : List ℕ). got v r))
-  value-rest l r (got v none) h g = omega (arith, length-append key (equals ∷ []))
-  value-rest l r broken h g = tt
+  value-line : (rest : List ℕ) (x : Read (List ℕ)) → length s ≡ length (key ++ equals ∷ []) + length rest → Split rest 1 x → Split s (length key + 2) x
+  value-line rest (got v r) h g = omega (arith, length-append key (equals ∷ []))
+  value-line rest broken h g = tt
 
-  value-line : (x : Read (List ℕ)) → Split s 1 x → Split s (length key + 2) (then x (λ (l r : List ℕ). then (after (key ++ equals ∷ []) l) (λ (v none : List ℕ). got v r)))
-  value-line (got l r) h = value-rest l r (after (key ++ equals ∷ []) l) h (after-rest (key ++ equals ∷ []) l)
-  value-line broken h = tt
+  value-rest : (x : Read (List ℕ)) → Rest (key ++ equals ∷ []) s x → Split s (length key + 2) (then x (λ (rest none : List ℕ). readLine rest))
+  value-rest (got rest none) h = value-line rest (readLine rest) h (line-split rest)
+  value-rest broken h = tt
 
   pub value-split : Split s (length key + 2) (readValue key s)
   unfolding readValue
-  value-split = value-line (readLine s) (line-split s)
+  value-split = value-rest (after (key ++ equals ∷ []) s) (after-rest (key ++ equals ∷ []) s)
 
   -- a number's line
   number-by : (v r : List ℕ) (b : Bool) → (b ≡ true → 1 ≤ length v) → length s ≡ length v + (length r + (length key + 2)) → Taken (length key + 3) s (cond b (got (valueFrom 0 v) r) broken)

@@ -1,12 +1,11 @@
 -- A line, its key and its value, by places in the text. Assumes nothing.
 use mathlib.Core.Path.{_≡_, refl, sym, _∙_}
-use mathlib.Core.Bool.{Bool, true, false, cond}
 use mathlib.Core.List.{List, [], _∷_, _++_}
 use Prim.Native.Nat.{ℕ, zero, suc, _+_, _-_, _≤_, _<_}
 use native.Mathlib.Numerals.{add-one}
 use native.Mathlib.Omega.{arith}
-use lib.ListN.{length, getD, take, drop, length-append, length-drop}
-use lib.Seq.{drop-cons, drop-length, drop-drop, take-nil, length-take-le, getD-drop}
+use lib.ListN.{length, getD, take, drop, length-drop, drop-of-length-le}
+use lib.Seq.{drop-cons, drop-drop, getD-drop}
 use borrow.Author.Tests.{eq-eqb, ne-eqb}
 use Rattle.scanner.specs.Scanner.{Read, got, broken, feed, equals, readLine, after, readValue, part}
 
@@ -37,67 +36,44 @@ module _ (s : List ℕ) (at : ℕ) where
 
 -- ---- the key and the equals sign
 
-broken-both : (b : Bool) → _≡_ {A = Read (List ℕ)} (cond b broken broken) broken
-broken-both true = refl
-broken-both false = refl
-
-after-short : (p l : List ℕ) → length l < length p → after p l ≡ broken
+nothing-left : (p : List ℕ) → after (p ++ equals ∷ []) [] ≡ broken
 unfolding after
-after-short [] l h = absurd (omega arith)
-after-short (x ∷ p) [] h = refl
-after-short (x ∷ p) (y ∷ l) h = simp (after-short p l (omega arith), broken-both)
+nothing-left [] = refl
+nothing-left (x ∷ p) = refl
 
-module _ (key line : List ℕ) where
-  abbrev ahead : ℕ → Read (List ℕ)
-  ahead i = after (drop i key ++ equals ∷ []) (drop i line)
+module _ (key s : List ℕ) (i j : ℕ) where
+  -- what is left of the key, against the text from a place on
+  abbrev ahead : Read (List ℕ)
+  ahead = after (drop i key ++ equals ∷ []) (drop j s)
 
-  pub key-short : length line ≤ length key → after (key ++ equals ∷ []) line ≡ broken
-  key-short h = after-short (key ++ equals ∷ []) line (rw length-append (omega arith))
+  pub text-ends : length s ≤ j → ahead ≡ broken
+  text-ends h = rw (drop-of-length-le s h) (nothing-left (drop i key))
 
-  module _ (i : ℕ) (k : i < length key) (l : i < length line) where
-    pub key-turn : getD line i 0 ≡ getD key i 0 → ahead i ≡ ahead (i + 1)
+  module _ (k : i < length key) (l : j < length s) where
+    pub key-turn : getD s j 0 ≡ getD key i 0 → ahead ≡ after (drop (i + 1) key ++ equals ∷ []) (drop (j + 1) s)
     unfolding after
-    key-turn e = rw (add-one i, drop-cons key i 0, drop-cons line i 0) (simp (eq-eqb (getD key i 0) (getD line i 0) (sym e)))
+    key-turn e = rw (add-one i, add-one j, drop-cons key i 0, drop-cons s j 0) (simp (eq-eqb (getD key i 0) (getD s j 0) (sym e)))
 
-    pub key-other : (getD line i 0 ≡ getD key i 0 → ⊥) → ahead i ≡ broken
+    pub key-other : (getD s j 0 ≡ getD key i 0 → ⊥) → ahead ≡ broken
     unfolding after
-    key-other n = rw (drop-cons key i 0, drop-cons line i 0) (simp (ne-eqb (getD key i 0) (getD line i 0) (λ z. n (sym z))))
+    key-other n = rw (drop-cons key i 0, drop-cons s j 0) (simp (ne-eqb (getD key i 0) (getD s j 0) (λ z. n (sym z))))
 
-  module _ (i : ℕ) (k : i ≡ length key) (l : i < length line) where
-    pub key-ends : getD line i 0 ≡ equals → ahead i ≡ got (drop (length key + 1) line) []
+  module _ (k : length key ≤ i) (l : j < length s) where
+    pub key-ends : getD s j 0 ≡ equals → ahead ≡ got (drop (j + 1) s) []
     unfolding after
-    key-ends e = rw (drop-cons line i 0, k, drop-length, add-one) (simp (← k, e))
+    key-ends e = rw (add-one j, drop-of-length-le key k, drop-cons s j 0) (simp e)
 
-    pub no-equals : (getD line i 0 ≡ equals → ⊥) → ahead i ≡ broken
+    pub no-equals : (getD s j 0 ≡ equals → ⊥) → ahead ≡ broken
     unfolding after
-    no-equals n = rw (drop-cons line i 0, k, drop-length) (simp (← k, ne-eqb equals (getD line i 0) (λ z. n (sym z))))
+    no-equals n = rw (drop-of-length-le key k, drop-cons s j 0) (simp (ne-eqb equals (getD s j 0) (λ z. n (sym z))))
 
 -- ---- the value
 
 module _ (key s : List ℕ) where
-  pub no-line : readLine s ≡ broken → readValue key s ≡ broken
+  pub no-start : after (key ++ equals ∷ []) s ≡ broken → readValue key s ≡ broken
   unfolding readValue
-  no-line e = simp e
+  no-start e = simp e
 
-  pub no-key : (l r : List ℕ) → readLine s ≡ got l r → after (key ++ equals ∷ []) l ≡ broken → readValue key s ≡ broken
+  pub started : (rest : List ℕ) → after (key ++ equals ∷ []) s ≡ got rest [] → readValue key s ≡ readLine rest
   unfolding readValue
-  no-key l r e k = simp (e, k)
-
-  pub value-is : (l r v : List ℕ) → readLine s ≡ got l r → after (key ++ equals ∷ []) l ≡ got v [] → readValue key s ≡ got v r
-  unfolding readValue
-  value-is l r v e k = simp (e, k)
-
-drop-take : (n m : ℕ) (l : List ℕ) → drop n (take m l) ≡ take (m - n) (drop n l)
-drop-take zero m l = let e : m - 0 ≡ m = omega arith in rw e
-drop-take (suc n) zero l = let e : zero - suc n ≡ 0 = omega arith in rw e
-drop-take (suc n) (suc m) [] = sym (take-nil (suc m - suc n))
-drop-take (suc n) (suc m) (x ∷ l) = let e : suc m - suc n ≡ m - n = omega arith in drop-take n m l ∙ rw e
-
-pub part-drop : (s : List ℕ) (at end n : ℕ) → drop (n + 1) (part s at end) ≡ part s (at + n + 1) end
-part-drop s at end n =
-    let e : at + (n + 1) ≡ at + n + 1 = omega arith in
-    let f : end - at - (n + 1) ≡ end - (at + n + 1) = omega arith in
-    drop-take (n + 1) (end - at) (drop at s) ∙ rw (drop-drop, e, f)
-
-pub part-length : (s : List ℕ) (at end : ℕ) → at ≤ end → end ≤ length s → length (part s at end) ≡ end - at
-part-length s at end a l = length-take-le (end - at) (drop at s) (rw length-drop (omega arith))
+  started rest e = simp e

@@ -1,46 +1,39 @@
--- From a line's value to what was read. Assumes nothing.
+-- From a line's value to the number or the date read. Assumes nothing.
 use mathlib.Core.Path.{_≡_, refl}
 use mathlib.Core.Bool.{Bool, true, false, cond}
 use mathlib.Core.List.{List}
-use Prim.Native.Nat.{ℕ}
-use Rattle.calendar.specs.declared.Date.{Date}
-use Rattle.scanner.specs.Scanner.{Read, got, broken, readValue, isNumber, valueFrom, readNumber, isDate, dateValue, readDate}
-use Rattle.scanner.specs.Places.{numberOf, dateOf}
-use Rattle.scanner.specs.declared.Number.{Number}
-use Rattle.scanner.specs.declared.Number.the-variants as number
-use Rattle.scanner.specs.declared.Dated.{Dated}
-use Rattle.scanner.specs.declared.Dated.the-variants as dated
+use Prim.Native.Nat.{ℕ, _≤_}
+use lib.ListN.{length, drop}
+use Rattle.scanner.specs.Scanner.{got, readValue, readNumber, isDate, dateValue, readDate, ValueAt, NumberAt, DateAt}
+use Rattle.scanner.specs.Places.{dateOf, numberLine, StartAt, NumberFrom}
+use Rattle.scanner.specs.declared.Place.the-variants as place
+use Rattle.scanner.specs.declared.ValueRead.the-variants as value-read
+use Rattle.scanner.specs.declared.NumberRead.{NumberRead}
+use Rattle.scanner.specs.declared.NumberRead.the-variants as number-read
+use Rattle.scanner.specs.declared.DateRead.{DateRead}
+use Rattle.scanner.specs.declared.DateRead.the-variants as date-read
 
-abbrev asNumber : Number → List ℕ → Read ℕ
-asNumber (number.Is n) r = got n r
-asNumber number.Wrong r = broken
-
-number-by : (b : Bool) (n : ℕ) (r : List ℕ) → cond b (got n r) broken ≡ asNumber (cond b (number.Is n) number.Wrong) r
-number-by true n r = refl
-number-by false n r = refl
-
-abbrev asDate : Dated → List ℕ → Read Date
-asDate (dated.Is d) r = got d r
-asDate dated.Wrong r = broken
-
-date-by : (b : Bool) (d : Date) (r : List ℕ) → cond b (got d r) broken ≡ asDate (cond b (dated.Is d) dated.Wrong) r
-date-by true d r = refl
-date-by false d r = refl
-
-module _ (key s : List ℕ) where
-  pub no-number : readValue key s ≡ broken → readNumber key s ≡ broken
-  unfolding readNumber
+module _ (key s : List ℕ) (at : ℕ) where
+  -- a number
+  pub no-number : StartAt key s at place.Missing → NumberAt key s at number-read.Broken
+  unfolding readNumber readValue
   no-number e = simp e
 
-  pub no-date : readValue key s ≡ broken → readDate key s ≡ broken
+  pub number-is : (from : ℕ) → StartAt key s at (place.At from) → (r : NumberRead) → NumberFrom s from r → NumberAt key s at r
+  unfolding readNumber readValue numberLine
+  number-is from e (number-read.Got n next) h = (simp (e .0) (h .0), h .1)
+  number-is from e number-read.Broken h = simp (e .0) h
+
+  -- a date
+  pub no-date : ValueAt key s at value-read.Broken → DateAt key s at date-read.Broken
   unfolding readDate
   no-date e = simp e
 
-  module _ (v r : List ℕ) (e : readValue key s ≡ got v r) where
-    pub number-is : (m : Number) → m ≡ numberOf v → readNumber key s ≡ asNumber m r
-    unfolding readNumber
-    number-is m h = simp (e, h) (number-by (isNumber v) (valueFrom 0 v) r)
-
-    pub date-is : (d : Dated) → d ≡ dateOf v → readDate key s ≡ asDate d r
+  module _ (v : List ℕ) (next : ℕ) (e : readValue key (drop at s) ≡ got v (drop next s)) (l : next ≤ length s) where
+    by : (t : Bool) → isDate v ≡ t → DateAt key s at (cond t (date-read.Got (dateValue v) next) date-read.Broken)
     unfolding readDate
-    date-is d h = simp (e, h) (date-by (isDate v) (dateValue v) r)
+    by true h = (simp (e, h), l)
+    by false h = simp (e, h)
+
+    pub date-is : (r : DateRead) → r ≡ dateOf v next → DateAt key s at r
+    date-is r h = rw h (by (isDate v) refl)

@@ -1,42 +1,48 @@
--- What the functions inside the scanner answer: about a line's value, and by places in the text.
-use Prim.Native.Nat.{ℕ, _+_, _≤_, _<_}
+-- What the functions inside the scanner answer.
+use Prim.Native.Nat.{ℕ, _+_, _-_, _≤_, _<_}
 use mathlib.Core.Path.{_≡_}
-use mathlib.Core.Bool.{Bool, true, false, cond, _&&_}
+use mathlib.Core.Bool.{cond, _&&_}
 use mathlib.Core.List.{List, [], _∷_, _++_}
 use lib.ListN.{length, getD, drop}
-use lib.Dec.{leb}
 use Rattle.scanner.specs.declared.Place.{Place}
 use Rattle.scanner.specs.declared.Place.the-variants as place
-use Rattle.scanner.specs.declared.Number.{Number}
-use Rattle.scanner.specs.declared.Number.the-variants as number
-use Rattle.scanner.specs.declared.Dated.{Dated}
-use Rattle.scanner.specs.declared.Dated.the-variants as dated
-use Rattle.scanner.specs.Scanner.{got, broken, equals, readLine, after, isDigit, allDigits, valueFrom, isNumber, isDate, pair, dateValue, part}
+use Rattle.scanner.specs.declared.NumberRead.{NumberRead}
+use Rattle.scanner.specs.declared.NumberRead.the-variants as number-read
+use Rattle.scanner.specs.declared.DateRead.{DateRead}
+use Rattle.scanner.specs.declared.DateRead.the-variants as date-read
+use Rattle.scanner.specs.Scanner.{Read, got, broken, then, equals, readLine, after, isDigit, valueFrom, isNumber, isDate, pair, dateValue, part}
 
--- ---- a line's value by itself
+-- ---- bytes by themselves
 
--- a number of digits that is small enough
-abbrev pub digitsOf : List ℕ → Number
-digitsOf v = cond (allDigits v && leb (valueFrom 0 v) 4294967295) (number.Is (valueFrom 0 v)) number.Wrong
+-- the digit that a byte is, 10 for none
+abbrev pub digitOf : ℕ → ℕ
+digitOf b = cond (isDigit b) (b - 48) 10
 
-abbrev pub numberOf : List ℕ → Number
-numberOf v = cond (isNumber v) (number.Is (valueFrom 0 v)) number.Wrong
+-- the number of the two digits at a place, 100 for none
+abbrev pub pairOf : List ℕ → ℕ → ℕ
+pairOf v i = cond (isDigit (getD v i 0) && isDigit (getD v (i + 1) 0)) (pair (getD v i 0) (getD v (i + 1) 0)) 100
 
--- the two digits at a place
-abbrev pub pairOf : List ℕ → ℕ → Number
-pairOf v i = cond (isDigit (getD v i 0) && isDigit (getD v (i + 1) 0)) (number.Is (pair (getD v i 0) (getD v (i + 1) 0))) number.Wrong
+-- the date that a line's value is, with what follows the line
+abbrev pub dateOf : List ℕ → ℕ → DateRead
+dateOf v next = cond (isDate v) (date-read.Got (dateValue v) next) date-read.Broken
 
-abbrev pub dateOf : List ℕ → Dated
-dateOf v = cond (isDate v) (dated.Is (dateValue v)) dated.Wrong
-
--- whether a line starts with the key and the equals sign
-abbrev pub Keyed : List ℕ → List ℕ → Bool → Type 0
-Keyed key line true = (after (key ++ equals ∷ []) line ≡ got (drop (length key + 1) line) []) × (length key + 1 ≤ length line)
-Keyed key line false = after (key ++ equals ∷ []) line ≡ broken
+-- the number that stands before the first line feed
+unfoldable pub numberLine : List ℕ → Read ℕ
+numberLine s = then (readLine s) (λ (v r : List ℕ). cond (isNumber v) (got (valueFrom 0 v) r) broken)
 
 -- ---- by places
+
+-- where the value of the line at a place starts: after the key and the equals sign
+abbrev pub StartAt : List ℕ → List ℕ → ℕ → Place → Type 0
+StartAt key s at (place.At from) = (after (key ++ equals ∷ []) (drop at s) ≡ got (drop from s) []) × (from ≤ length s)
+StartAt key s at place.Missing = after (key ++ equals ∷ []) (drop at s) ≡ broken
 
 -- the first line feed from a place on
 abbrev pub FeedAt : List ℕ → ℕ → Place → Type 0
 FeedAt s at (place.At end) = (readLine (drop at s) ≡ got (part s at end) (drop (end + 1) s)) × (at ≤ end) × (end < length s)
 FeedAt s at place.Missing = readLine (drop at s) ≡ broken
+
+-- the number from a place on, up to the line feed
+abbrev pub NumberFrom : List ℕ → ℕ → NumberRead → Type 0
+NumberFrom s from (number-read.Got n next) = (numberLine (drop from s) ≡ got n (drop next s)) × (next ≤ length s)
+NumberFrom s from number-read.Broken = numberLine (drop from s) ≡ broken

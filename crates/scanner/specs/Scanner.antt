@@ -47,10 +47,9 @@ after [] s = got s []
 after (p ∷ ps) [] = broken
 after (p ∷ ps) (b ∷ s) = cond (eqb p b) (after ps s) broken
 
--- "Lines `key=value`": the value of a line with that key
+-- "Lines `key=value`, each ended by one line feed": what stands after the key and the equals sign, up to the line feed
 unfoldable pub readValue : List ℕ → List ℕ → Read (List ℕ)
-readValue key s =
-    then (readLine s) (λ (l r : List ℕ). then (after (key ++ equals ∷ []) l) (λ (v none : List ℕ). got v r))
+readValue key s = then (after (key ++ equals ∷ []) s) (λ (rest none : List ℕ). readLine rest)
 
 -- ---- numbers
 

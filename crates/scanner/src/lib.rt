@@ -4,25 +4,13 @@ use calendar::Date;
 ghost use mathlib.Core.Path.{_≡_};
 ghost use Prim.Native.Nat.{_+_, _≤_};
 ghost use lib.ListN.{length};
-ghost use Rattle.scanner.specs.Scanner.{isDigit, same as sameBytes, ValueAt, NumberAt, DateAt};
-ghost use Rattle.scanner.specs.Places.{digitsOf, numberOf, pairOf, dateOf, Keyed, FeedAt};
+ghost use Rattle.scanner.specs.Scanner.{same as sameBytes, ValueAt, NumberAt, DateAt};
+ghost use Rattle.scanner.specs.Places.{digitOf, pairOf, dateOf, StartAt, FeedAt, NumberFrom};
 
 // A place in the text, or that there is none.
 enum Place {
     At(usize),
     Missing,
-}
-
-// A number, or that the bytes are none.
-enum Number {
-    Is(u32),
-    Wrong,
-}
-
-// A date, or that the bytes are none.
-enum Dated {
-    Is(Date),
-    Wrong,
 }
 
 // The value of the line at a place: its bytes are those from `from` on, its line feed stands at `end`, and `next` is what follows.
@@ -61,98 +49,103 @@ fn line_end(text: &[u8], at: usize) -> Place
     Place::Missing
 }
 
-// Whether the line starts with the key and an equals sign.
-fn has_key(line: &[u8], key: &[u8]) -> bool
-    ensures { λ r. ⌜ Keyed (now (key .entry)) (now (line .entry)) r ⌝ }
+// Where the value of the line at `at` starts, if its key is this.
+fn value_start(text: &[u8], at: usize, key: &[u8]) -> Place
+    ensures { λ r. ⌜ StartAt (now (key .entry)) (now (text .entry)) at r ⌝ }
 {
-    if line.len() <= key.len() {
-        return false;
-    }
     let mut i = 0;
+    let mut j = at;
     while i < key.len() {
-        if line[i] != key[i] {
-            return false;
+        if j >= text.len() {
+            return Place::Missing;
+        }
+        if text[j] != key[i] {
+            return Place::Missing;
         }
         i += 1;
+        j += 1;
     }
-    if line[i] != 61 {
-        return false;
+    if j >= text.len() {
+        return Place::Missing;
     }
-    true
+    if text[j] != 61 {
+        return Place::Missing;
+    }
+    Place::At(j + 1)
 }
 
 // The value of the line at `at`, whose key this is to be.
 pub fn read_value(text: &[u8], at: usize, key: &[u8]) -> ValueRead
     ensures { λ r. ⌜ ValueAt (now (key .entry)) (now (text .entry)) at r ⌝ }
 {
-    let Place::At(end) = line_end(text, at) else {
+    let Place::At(from) = value_start(text, at, key) else {
         return ValueRead::Broken;
     };
-    let line = &text[at..end];
-    if !has_key(line, key) {
+    let Place::At(end) = line_end(text, from) else {
         return ValueRead::Broken;
-    }
-    let from = at + key.len() + 1;
+    };
     let next = end + 1;
     ValueRead::Got { from, end, next }
 }
 
 // ---- numbers
 
-fn is_digit(byte: u8) -> bool
-    ensures { λ r. ⌜ r ≡ isDigit byte ⌝ }
+// The digit that a byte is, 10 for none.
+fn digit(byte: u8) -> u64
+    ensures { λ r. ⌜ r ≡ digitOf byte ⌝ }
 {
     if byte < 48 {
-        return false;
+        return 10;
     }
-    byte <= 57
+    if byte > 57 {
+        return 10;
+    }
+    byte as u64 - 48
 }
 
-// The number that the digits are, at most 4,294,967,295.
-fn digits_of(value: &[u8]) -> Number
-    ensures { λ r. ⌜ r ≡ digitsOf (now (value .entry)) ⌝ }
+// The number from `from` on, up to the line feed.
+fn number_from(text: &[u8], from: usize) -> NumberRead
+    ensures { λ r. ⌜ NumberFrom (now (text .entry)) from r ⌝ }
 {
     let mut n: u64 = 0;
-    let mut i = 0;
-    while i < value.len() {
-        let byte = value[i];
-        if !is_digit(byte) {
-            return Number::Wrong;
+    let mut i = from;
+    while i < text.len() {
+        let byte = text[i];
+        let d = digit(byte);
+        if d > 9 {
+            if byte != 10 {
+                return NumberRead::Broken;
+            }
+            if i == from {
+                return NumberRead::Broken;
+            }
+            return NumberRead::Got {
+                value: n as u32,
+                next: i + 1,
+            };
         }
-        n = n * 10 + (byte as u64 - 48);
+        // nothing follows a leading zero
+        if n == 0 {
+            if i > from {
+                return NumberRead::Broken;
+            }
+        }
+        n = n * 10 + d;
         if n > 4294967295 {
-            return Number::Wrong;
+            return NumberRead::Broken;
         }
         i += 1;
     }
-    Number::Is(n as u32)
-}
-
-// The number that a value is: digits without a leading zero.
-fn number_of(value: &[u8]) -> Number
-    ensures { λ r. ⌜ r ≡ numberOf (now (value .entry)) ⌝ }
-{
-    if value.len() == 0 {
-        return Number::Wrong;
-    }
-    if value.len() > 1 {
-        if value[0] == 48 {
-            return Number::Wrong;
-        }
-    }
-    digits_of(value)
+    NumberRead::Broken
 }
 
 pub fn read_number(text: &[u8], at: usize, key: &[u8]) -> NumberRead
     ensures { λ r. ⌜ NumberAt (now (key .entry)) (now (text .entry)) at r ⌝ }
 {
-    let ValueRead::Got { from, end, next } = read_value(text, at, key) else {
+    let Place::At(from) = value_start(text, at, key) else {
         return NumberRead::Broken;
     };
-    let Number::Is(value) = number_of(&text[from..end]) else {
-        return NumberRead::Broken;
-    };
-    NumberRead::Got { value, next }
+    number_from(text, from)
 }
 
 // The number of a day: for the keys `day`, `usage`, `from` and `to`.
@@ -164,51 +157,56 @@ pub fn read_day(text: &[u8], at: usize, key: &[u8]) -> NumberRead
 
 // ---- dates
 
-// The number that the two bytes at a place are.
-fn pair_at(value: &[u8], i: usize) -> Number
+// The number that the two bytes at a place are, 100 for none.
+fn pair_at(value: &[u8], i: usize) -> u32
     requires { ⌜ i + 2 ≤ length (now value) ⌝ }
     ensures { λ r. ⌜ r ≡ pairOf (now (value .entry)) i ⌝ }
 {
-    let first = value[i];
-    let second = value[i + 1];
-    if !is_digit(first) {
-        return Number::Wrong;
+    let tens = digit(value[i]);
+    let units = digit(value[i + 1]);
+    if tens > 9 {
+        return 100;
     }
-    if !is_digit(second) {
-        return Number::Wrong;
+    if units > 9 {
+        return 100;
     }
-    let tens = first as u32 - 48;
-    let units = second as u32 - 48;
-    Number::Is(tens * 10 + units)
+    (tens * 10 + units) as u32
 }
 
-// The date that a value is: YYYY-MM-DD, any digits.
-fn date_of(value: &[u8]) -> Dated
-    ensures { λ r. ⌜ r ≡ dateOf (now (value .entry)) ⌝ }
+// The date that a value is, YYYY-MM-DD of any digits, and what follows its line.
+fn date_of(value: &[u8], next: usize) -> DateRead
+    ensures { λ r. ⌜ r ≡ dateOf (now (value .entry)) next ⌝ }
 {
     if value.len() != 10 {
-        return Dated::Wrong;
+        return DateRead::Broken;
     }
     if value[4] != 45 {
-        return Dated::Wrong;
+        return DateRead::Broken;
     }
     if value[7] != 45 {
-        return Dated::Wrong;
+        return DateRead::Broken;
     }
-    let Number::Is(century) = pair_at(value, 0) else {
-        return Dated::Wrong;
-    };
-    let Number::Is(years) = pair_at(value, 2) else {
-        return Dated::Wrong;
-    };
-    let Number::Is(month) = pair_at(value, 5) else {
-        return Dated::Wrong;
-    };
-    let Number::Is(day) = pair_at(value, 8) else {
-        return Dated::Wrong;
-    };
+    let century = pair_at(value, 0);
+    if century > 99 {
+        return DateRead::Broken;
+    }
+    let years = pair_at(value, 2);
+    if years > 99 {
+        return DateRead::Broken;
+    }
+    let month = pair_at(value, 5);
+    if month > 99 {
+        return DateRead::Broken;
+    }
+    let day = pair_at(value, 8);
+    if day > 99 {
+        return DateRead::Broken;
+    }
     let year = century * 100 + years;
-    Dated::Is(Date { year, month, day })
+    DateRead::Got {
+        date: Date { year, month, day },
+        next,
+    }
 }
 
 pub fn read_date(text: &[u8], at: usize, key: &[u8]) -> DateRead
@@ -217,10 +215,7 @@ pub fn read_date(text: &[u8], at: usize, key: &[u8]) -> DateRead
     let ValueRead::Got { from, end, next } = read_value(text, at, key) else {
         return DateRead::Broken;
     };
-    let Dated::Is(date) = date_of(&text[from..end]) else {
-        return DateRead::Broken;
-    };
-    DateRead::Got { date, next }
+    date_of(&text[from..end], next)
 }
 
 // ---- words

@@ -1,5 +1,5 @@
 -- The fields of an event, one after the other. Assumes nothing.
-use mathlib.Core.Path.{_≡_, refl, sym, _∙_}
+use mathlib.Core.Path.{_≡_, refl, sym, _∙_, ap, subst}
 use mathlib.Core.List.{List, [], _∷_}
 use mathlib.Core.Logic.{_⊎_, inl, inr}
 use Prim.Native.Nat.{ℕ, _≤_, _<_}
@@ -9,11 +9,23 @@ use borrow.Author.Tests.{ne-eqb}
 use lib.ListN.{length, drop}
 use Rattle.ledger.specs.declared.Event.{Event}
 use Rattle.scanner.specs.Scanner.{Read, got, broken, then, readNumber, NumberAt}
+use Rattle.scanner.specs.declared.NumberRead.{NumberRead}
 use Rattle.scanner.specs.declared.NumberRead.the-variants as number-read
 use Rattle.text.specs.Text.{Field, amount, number, kind, usage, wh, from, to, keyOf, fieldsOf, stored, readFields}
-use Rattle.text.specs.Places.{FieldsAt}
+use Rattle.text.specs.Places.{fieldIs, FieldsAt}
+use Rattle.text.specs.declared.Field as field
 use Rattle.text.specs.declared.EventRead.{EventRead}
 use Rattle.text.specs.declared.EventRead.the-variants as event-read
+
+-- ---- each field by itself
+
+pub under : (s : List ℕ) (at : ℕ) {f g : field.Field} → f ≡ g → (r : NumberRead) → NumberAt (keyOf (fieldIs g)) s at r → NumberAt (keyOf (fieldIs f)) s at r
+under s at e r h = subst (λ (k : field.Field). NumberAt (keyOf (fieldIs k)) s at r) (sym e) h
+
+pub storing : (n : ℕ) (e : Event) {f g : field.Field} → f ≡ g → stored (fieldIs g) n e ≡ stored (fieldIs f) n e
+storing n e h = ap (λ (k : field.Field). stored (fieldIs k) n e) (sym h)
+
+-- ---- one after the other
 
 one-then : (x : Read ℕ) (g : ℕ → Event) (fs : List Field)
     → then x (λ (n : ℕ) (r : List ℕ). readFields fs (g n) r) ≡ then (then x (λ (n : ℕ) (r : List ℕ). got (g n) r)) (λ (e : Event) (r : List ℕ). readFields fs e r)
@@ -31,9 +43,9 @@ module _ (f : Field) (e : Event) (s : List ℕ) (at : ℕ) where
   unfolding readFields
   field-none h = simp h
 
-  pub field-is : (n next : ℕ) → NumberAt (keyOf f) s at (number-read.Got n next) → FieldsAt (f ∷ []) e s at (event-read.Got (stored f n e) next)
+  pub field-is : (n next : ℕ) → NumberAt (keyOf f) s at (number-read.Got n next) → (e′ : Event) → e′ ≡ stored f n e → FieldsAt (f ∷ []) e s at (event-read.Got e′ next)
   unfolding readFields
-  field-is n next h = (simp (h .0), h .1)
+  field-is n next h e′ g = (simp (h .0, g), h .1)
 
   -- the first of several
   pub first-none : (fs : List Field) → FieldsAt (f ∷ []) e s at event-read.Broken → FieldsAt (f ∷ fs) e s at event-read.Broken

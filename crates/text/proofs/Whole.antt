@@ -10,9 +10,10 @@ use Rattle.scanner.specs.Scanner.{got, NumberAt, DateAt}
 use Rattle.scanner.specs.declared.NumberRead.the-variants as number-read
 use Rattle.scanner.specs.declared.DateRead.the-variants as date-read
 use Rattle.text.specs.Text.{kDay, kOpen, kPrice, kConnect, kCutoff, kShare, readFields, fieldsOf, eventOf, readEvent, readTerms, EventAt, TermsAt}
-use Rattle.text.specs.Places.{SortAt, FieldsAt}
+use Rattle.text.specs.Places.{readBalances, BalancesAt, SortAt, FieldsAt}
 use Rattle.text.specs.declared.EventRead.{EventRead}
 use Rattle.text.specs.declared.EventRead.the-variants as event-read
+use Rattle.text.specs.declared.TermsRead.{TermsRead}
 use Rattle.text.specs.declared.TermsRead.the-variants as terms-read
 use Rattle.text.proofs.Laws.{event-progress}
 
@@ -52,21 +53,27 @@ module _ (s : List ℕ) where
     unfolding readTerms
     no-price n = simp (h .0, n)
 
-    module _ (p b : ℕ) (i : NumberAt kPrice s a (number-read.Got p b)) where
-      pub no-connect : NumberAt kConnect s b number-read.Broken → TermsAt s terms-read.Broken
-      unfolding readTerms
-      no-connect n = simp (h .0, i .0, n)
+    pub whole-terms : (p b : ℕ) → NumberAt kPrice s a (number-read.Got p b) → (r : TermsRead) → BalancesAt o p s b r → TermsAt s r
+    unfolding readTerms readBalances
+    whole-terms p b i (terms-read.Got t next) l = (simp (h .0, i .0) (l .0), l .1)
+    whole-terms p b i terms-read.Broken l = simp (h .0, i .0) l
 
-      module _ (c d : ℕ) (j : NumberAt kConnect s b (number-read.Got c d)) where
-        pub no-cutoff : NumberAt kCutoff s d number-read.Broken → TermsAt s terms-read.Broken
-        unfolding readTerms
-        no-cutoff n = simp (h .0, i .0, j .0, n)
+-- from the line of `connect` on
+module _ (o : Date) (p : ℕ) (s : List ℕ) (at : ℕ) where
+  pub no-connect : NumberAt kConnect s at number-read.Broken → BalancesAt o p s at terms-read.Broken
+  unfolding readBalances
+  no-connect n = simp n
 
-        module _ (f g : ℕ) (k : NumberAt kCutoff s d (number-read.Got f g)) where
-          pub no-share : NumberAt kShare s g number-read.Broken → TermsAt s terms-read.Broken
-          unfolding readTerms
-          no-share n = simp (h .0, i .0, j .0, k .0, n)
+  module _ (c a : ℕ) (h : NumberAt kConnect s at (number-read.Got c a)) where
+    pub no-cutoff : NumberAt kCutoff s a number-read.Broken → BalancesAt o p s at terms-read.Broken
+    unfolding readBalances
+    no-cutoff n = simp (h .0, n)
 
-          pub whole-terms : (m next : ℕ) → NumberAt kShare s g (number-read.Got m next) → TermsAt s (terms-read.Got (record { opened = o; price = p; connect = c; cutoff = f; share = m }) next)
-          unfolding readTerms
-          whole-terms m next n = (simp (h .0, i .0, j .0, k .0, n .0), n .1)
+    module _ (f b : ℕ) (i : NumberAt kCutoff s a (number-read.Got f b)) where
+      pub no-share : NumberAt kShare s b number-read.Broken → BalancesAt o p s at terms-read.Broken
+      unfolding readBalances
+      no-share n = simp (h .0, i .0, n)
+
+      pub whole-balances : (m next : ℕ) → NumberAt kShare s b (number-read.Got m next) → BalancesAt o p s at (terms-read.Got (record { opened = o; price = p; connect = c; cutoff = f; share = m }) next)
+      unfolding readBalances
+      whole-balances m next n = (simp (h .0, i .0, n .0), n .1)

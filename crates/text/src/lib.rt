@@ -1,5 +1,6 @@
 // Event text: the terms and one event, read from its lines.
-// It uses the scanner of the lines, the ledger's event and the terms. Its promises cite specs/Text.antt, and inside the crate specs/Places.antt.
+// It uses the scanner of the lines, the ledger's event, the terms and the calendar's date. Its promises cite specs/Text.antt, and inside the crate specs/Places.antt.
+use calendar::Date;
 use ledger::Event;
 use scanner::DateRead;
 use scanner::NumberRead;
@@ -9,8 +10,9 @@ ghost use mathlib.Core.Path.{_≡_};
 ghost use mathlib.Core.List.{[], _∷_};
 ghost use Prim.Native.Nat.{_≤_};
 ghost use lib.ListN.{length};
-ghost use Rattle.text.specs.Text.{TermsAt, EventAt, sortOf, fieldsOf, amount as amountField, number as numberField, kind as kindField, usage as usageField, wh as whField, from as fromField, to as toField};
-ghost use Rattle.text.specs.Places.{SortAt, FieldsAt};
+ghost use Rattle.scanner.specs.Scanner.{NumberAt};
+ghost use Rattle.text.specs.Text.{TermsAt, EventAt, sortOf, fieldsOf, keyOf, stored, kind as kindField, from as fromField, to as toField};
+ghost use Rattle.text.specs.Places.{BalancesAt, serviceOf, SortAt, fieldIs, FieldsAt};
 
 // The terms at the start of a text and where its events start, or that they break the form.
 pub enum TermsRead {
@@ -22,6 +24,17 @@ pub enum TermsRead {
 pub enum EventRead {
     Got { event: Event, next: usize },
     Broken,
+}
+
+// The fields of the events.
+enum Field {
+    Amount,
+    Number,
+    Kind,
+    Usage,
+    Wh,
+    From,
+    To,
 }
 
 // ---- the terms
@@ -36,10 +49,17 @@ pub fn read_terms(text: &[u8]) -> TermsRead
     let NumberRead::Got { value: price, next } = scanner::read_number(text, next, b"price") else {
         return TermsRead::Broken;
     };
+    read_balances(text, next, opened, price)
+}
+
+// The terms of an opening date and a price, from the line of `connect` on.
+fn read_balances(text: &[u8], at: usize, opened: Date, price: u32) -> TermsRead
+    ensures { λ r. ⌜ BalancesAt opened price (now (text .entry)) at r ⌝ }
+{
     let NumberRead::Got {
         value: connect,
         next,
-    } = scanner::read_number(text, next, b"connect")
+    } = scanner::read_number(text, at, b"connect")
     else {
         return TermsRead::Broken;
     };
@@ -87,6 +107,13 @@ fn sort_of(value: &[u8]) -> u32
     if scanner::same(value, b"read") {
         return 6;
     }
+    service_of(value)
+}
+
+// The same from `warn` on: the words of the service.
+fn service_of(value: &[u8]) -> u32
+    ensures { λ r. ⌜ r ≡ serviceOf (now (value .entry)) ⌝ }
+{
     if scanner::same(value, b"warn") {
         return 7;
     }
@@ -118,120 +145,74 @@ fn read_sort(text: &[u8], at: usize) -> NumberRead
     NumberRead::Got { value, next }
 }
 
-// ---- the fields, each stored in an event
+// ---- the fields
 
-fn read_amount(text: &[u8], at: usize, event: Event) -> EventRead
-    ensures { λ r. ⌜ FieldsAt (amountField ∷ []) event (now (text .entry)) at r ⌝ }
+// The number under a field's key.
+fn read_under(text: &[u8], at: usize, field: Field) -> NumberRead
+    ensures { λ r. ⌜ NumberAt (keyOf (fieldIs field)) (now (text .entry)) at r ⌝ }
 {
-    let NumberRead::Got { value, next } = scanner::read_number(text, at, b"amount") else {
-        return EventRead::Broken;
-    };
+    match field {
+        Field::Amount => scanner::read_number(text, at, b"amount"),
+        Field::Number => scanner::read_number(text, at, b"number"),
+        Field::Kind => scanner::read_number(text, at, b"kind"),
+        Field::Usage => scanner::read_day(text, at, b"usage"),
+        Field::Wh => scanner::read_number(text, at, b"wh"),
+        Field::From => scanner::read_day(text, at, b"from"),
+        Field::To => scanner::read_day(text, at, b"to"),
+    }
+}
+
+// The event with a field's number.
+fn store(event: Event, field: Field, value: u32) -> Event
+    ensures { λ r. ⌜ r ≡ stored (fieldIs field) value event ⌝ }
+{
     let mut event = event;
-    event.amount = value;
-    EventRead::Got { event, next }
+    match field {
+        Field::Amount => event.amount = value,
+        Field::Number => event.number = value,
+        Field::Kind => event.kind = value,
+        Field::Usage => event.usage = value,
+        Field::Wh => event.wh = value,
+        Field::From => event.from = value,
+        Field::To => event.to = value,
+    }
+    event
 }
 
-fn read_ordinal(text: &[u8], at: usize, event: Event) -> EventRead
-    ensures { λ r. ⌜ FieldsAt (numberField ∷ []) event (now (text .entry)) at r ⌝ }
+// The event with one field more.
+fn read_field(text: &[u8], at: usize, field: Field, event: Event) -> EventRead
+    ensures { λ r. ⌜ FieldsAt (fieldIs field ∷ []) event (now (text .entry)) at r ⌝ }
 {
-    let NumberRead::Got { value, next } = scanner::read_number(text, at, b"number") else {
+    let NumberRead::Got { value, next } = read_under(text, at, field) else {
         return EventRead::Broken;
     };
-    let mut event = event;
-    event.number = value;
-    EventRead::Got { event, next }
+    EventRead::Got {
+        event: store(event, field, value),
+        next,
+    }
 }
 
-fn read_kind(text: &[u8], at: usize, event: Event) -> EventRead
-    ensures { λ r. ⌜ FieldsAt (kindField ∷ []) event (now (text .entry)) at r ⌝ }
+// The event with two.
+fn read_two(text: &[u8], at: usize, first: Field, second: Field, event: Event) -> EventRead
+    ensures { λ r. ⌜ FieldsAt (fieldIs first ∷ fieldIs second ∷ []) event (now (text .entry)) at r ⌝ }
 {
-    let NumberRead::Got { value, next } = scanner::read_number(text, at, b"kind") else {
+    let EventRead::Got { event, next } = read_field(text, at, first, event) else {
         return EventRead::Broken;
     };
-    let mut event = event;
-    event.kind = value;
-    EventRead::Got { event, next }
+    read_field(text, next, second, event)
 }
 
-fn read_usage(text: &[u8], at: usize, event: Event) -> EventRead
-    ensures { λ r. ⌜ FieldsAt (usageField ∷ []) event (now (text .entry)) at r ⌝ }
-{
-    let NumberRead::Got { value, next } = scanner::read_day(text, at, b"usage") else {
-        return EventRead::Broken;
-    };
-    let mut event = event;
-    event.usage = value;
-    EventRead::Got { event, next }
-}
-
-fn read_wh(text: &[u8], at: usize, event: Event) -> EventRead
-    ensures { λ r. ⌜ FieldsAt (whField ∷ []) event (now (text .entry)) at r ⌝ }
-{
-    let NumberRead::Got { value, next } = scanner::read_number(text, at, b"wh") else {
-        return EventRead::Broken;
-    };
-    let mut event = event;
-    event.wh = value;
-    EventRead::Got { event, next }
-}
-
-fn read_from(text: &[u8], at: usize, event: Event) -> EventRead
-    ensures { λ r. ⌜ FieldsAt (fromField ∷ []) event (now (text .entry)) at r ⌝ }
-{
-    let NumberRead::Got { value, next } = scanner::read_day(text, at, b"from") else {
-        return EventRead::Broken;
-    };
-    let mut event = event;
-    event.from = value;
-    EventRead::Got { event, next }
-}
-
-fn read_to(text: &[u8], at: usize, event: Event) -> EventRead
-    ensures { λ r. ⌜ FieldsAt (toField ∷ []) event (now (text .entry)) at r ⌝ }
-{
-    let NumberRead::Got { value, next } = scanner::read_day(text, at, b"to") else {
-        return EventRead::Broken;
-    };
-    let mut event = event;
-    event.to = value;
-    EventRead::Got { event, next }
-}
-
-// ---- an event
-
-fn read_charge(text: &[u8], at: usize, event: Event) -> EventRead
-    ensures { λ r. ⌜ FieldsAt (kindField ∷ amountField ∷ []) event (now (text .entry)) at r ⌝ }
-{
-    let EventRead::Got { event, next } = read_kind(text, at, event) else {
-        return EventRead::Broken;
-    };
-    read_amount(text, next, event)
-}
-
-fn read_reading(text: &[u8], at: usize, event: Event) -> EventRead
-    ensures { λ r. ⌜ FieldsAt (usageField ∷ whField ∷ []) event (now (text .entry)) at r ⌝ }
-{
-    let EventRead::Got { event, next } = read_usage(text, at, event) else {
-        return EventRead::Broken;
-    };
-    read_wh(text, next, event)
-}
-
+// The event with the three of a mark.
 fn read_mark(text: &[u8], at: usize, event: Event) -> EventRead
     ensures { λ r. ⌜ FieldsAt (kindField ∷ fromField ∷ toField ∷ []) event (now (text .entry)) at r ⌝ }
 {
-    let EventRead::Got {
-        event: marked,
-        next,
-    } = read_kind(text, at, event)
-    else {
+    let EventRead::Got { event, next } = read_field(text, at, Field::Kind, event) else {
         return EventRead::Broken;
     };
-    let EventRead::Got { event: dated, next } = read_from(text, next, marked) else {
-        return EventRead::Broken;
-    };
-    read_to(text, next, dated)
+    read_two(text, next, Field::From, Field::To, event)
 }
+
+// ---- an event
 
 // The fields that the event's sort names.
 fn read_fields(text: &[u8], at: usize, event: Event) -> EventRead
@@ -240,12 +221,12 @@ fn read_fields(text: &[u8], at: usize, event: Event) -> EventRead
 {
     let sort = event.sort;
     match sort {
-        1 | 3 => read_amount(text, at, event),
-        2 => read_ordinal(text, at, event),
-        4 => read_charge(text, at, event),
-        5 | 6 => read_reading(text, at, event),
+        1 | 3 => read_field(text, at, Field::Amount, event),
+        2 => read_field(text, at, Field::Number, event),
+        4 => read_two(text, at, Field::Kind, Field::Amount, event),
+        5 | 6 => read_two(text, at, Field::Usage, Field::Wh, event),
         8 => read_mark(text, at, event),
-        9 => read_kind(text, at, event),
+        9 => read_field(text, at, Field::Kind, event),
         _ => EventRead::Got { event, next: at },
     }
 }

@@ -1,10 +1,9 @@
 -- `scanner::read_date` meets its contract. Assumes nothing.
-use mathlib.Core.Path.{sym, _∙_, subst}
+use mathlib.Core.Path.{subst}
 use native.Mathlib.Omega.{arith}
 use borrow.Author.Needs.{needs}
 use Rattle.scanner.specs.Scanner.{ValueAt}
 use Rattle.scanner.specs.declared.ValueRead.the-variants.{Got}
-use Rattle.scanner.specs.declared.Dated.the-variants.{Is, Wrong}
 use Rattle.scanner.proofs.Values.{no-date, date-is}
 use Rattle.scanner.proofs.read_date.Statement.{statement}
 use Rattle.scanner.proofs.read_date.Tie as tie
@@ -23,7 +22,9 @@ enum-told : tie.Need-enum-told
 enum-told c = search needs
 
 returns : tie.Need-returns
-returns c = no-date _ _ (subst (ValueAt _ _ _) (c .enum-told .given .1) (c .before .before .read-value .ensures))
+returns c =
+    let a = c .before .before .before .before .before .args in
+    no-date (a .key .now) (a .text .now) (a .at) (subst (ValueAt _ _ _) (c .enum-told .given .1) (c .before .before .read-value .ensures))
 
 sub-date-of : tie.Need-sub-date-of
 sub-date-of c = omega (arith, valued (c .before))
@@ -37,19 +38,11 @@ part-date-of-end c = omega (arith, valued (c .before))
 date-of-requires : tie.Need-date-of-requires
 date-of-requires c κs = search needs
 
-enum-known-date : tie.Need-enum-known-date
-enum-known-date c = search needs
-
-enum-told-2 : tie.Need-enum-told-2
-enum-told-2 c = search needs
-
 returns-2 : tie.Need-returns-2
-returns-2 c = date-is _ _ _ _ (valued (c .before .before .before .before .before) .0) Wrong (sym (c .enum-told2 .given .1) ∙ c .before .before .date-of .ensures)
-
-returns-3 : tie.Need-returns-3
-returns-3 c =
-    let v = valued (c .before .before .before .before .before .before) in
-    (date-is _ _ _ _ (v .0) (Is (c .before .date .given .0 .0)) (sym (c .before .date .given .1) ∙ c .before .before .before .date-of .ensures), v .3)
+returns-2 c =
+    let v = valued (c .before .before .before) in
+    let a = c .before .before .before .before .before .before .before .before .args in
+    date-is (a .key .now) (a .text .now) (a .at) _ _ (v .0) (v .3) _ (c .date-of .ensures)
 
 pub read-date-spec : {M : Type 1} → statement M
 read-date-spec =
@@ -63,7 +56,4 @@ read-date-spec =
     part-date-of-start
     part-date-of-end
     date-of-requires
-    enum-known-date
-    enum-told-2
-    returns-2
-    returns-3)
+    returns-2)

@@ -43,41 +43,41 @@ low c h =
     let four : n ≡ 4 → ⊥ = r .0 .0 .1 in
     omega arith
 
-read-amount-requires : tie.Need-read-amount-requires
-read-amount-requires c κs = search needs
+read-field-requires : tie.Need-read-field-requires
+read-field-requires c κs = search needs
 
-read-ordinal-requires : tie.Need-read-ordinal-requires
-read-ordinal-requires c κs = search needs
+read-field-requires-2 : tie.Need-read-field-requires-2
+read-field-requires-2 c κs = search needs
 
-read-charge-requires : tie.Need-read-charge-requires
-read-charge-requires c κs = search needs
+read-two-requires : tie.Need-read-two-requires
+read-two-requires c κs = search needs
 
 read-mark-requires : tie.Need-read-mark-requires
 read-mark-requires c κs = search needs
 
-read-kind-requires : tie.Need-read-kind-requires
-read-kind-requires c κs = search needs
+read-field-requires-3 : tie.Need-read-field-requires-3
+read-field-requires-3 c κs = search needs
 
-read-reading-requires : tie.Need-read-reading-requires
-read-reading-requires c κs = search needs
+read-two-requires-2 : tie.Need-read-two-requires-2
+read-two-requires-2 c κs = search needs
 
 returns : tie.Need-returns
-returns c = by (c .before .before .before) _ (c .read-amount .result) (of-amount _ (c .before .match .keys1)) (c .read-amount .ensures)
+returns c = by (c .before .before .before) _ (c .read-field .result) (of-amount _ (c .before .match .keys1)) (c .read-field .ensures)
 
 returns-2 : tie.Need-returns-2
-returns-2 c = by (c .before .before .before) _ (c .read-ordinal .result) (of-number _ (c .before .match .keys2)) (c .read-ordinal .ensures)
+returns-2 c = by (c .before .before .before) _ (c .read-field2 .result) (of-number _ (c .before .match .keys2)) (c .read-field2 .ensures)
 
 returns-3 : tie.Need-returns-3
-returns-3 c = by (c .before .before .before) _ (c .read-charge .result) (of-charge _ (c .before .match .keys3)) (c .read-charge .ensures)
+returns-3 c = by (c .before .before .before) _ (c .read-two .result) (of-charge _ (c .before .match .keys3)) (c .read-two .ensures)
 
 returns-4 : tie.Need-returns-4
 returns-4 c = by (c .before .before .before) _ (c .read-mark .result) (of-mark _ (c .before .match .keys4)) (c .read-mark .ensures)
 
 returns-5 : tie.Need-returns-5
-returns-5 c = by (c .before .before .before) _ (c .read-kind .result) (of-plan _ (c .before .match .keys5)) (c .read-kind .ensures)
+returns-5 c = by (c .before .before .before) _ (c .read-field3 .result) (of-plan _ (c .before .match .keys5)) (c .read-field3 .ensures)
 
 returns-6 : tie.Need-returns-6
-returns-6 c = by (c .before .before .before .before .before) _ (c .read-reading .result) (of-reading _ (low (c .before .before .before) (c .before .before .if1 .left)) (c .before .if2 .taken)) (c .read-reading .ensures)
+returns-6 c = by (c .before .before .before .before .before) _ (c .read-two2 .result) (of-reading _ (low (c .before .before .before) (c .before .before .if1 .left)) (c .before .if2 .taken)) (c .read-two2 .ensures)
 
 returns-7 : tie.Need-returns-7
 returns-7 c =
@@ -93,12 +93,12 @@ pub read-fields-spec : {M : Type 1} → statement M
 read-fields-spec =
     tie.close
     (tie.spec
-    read-amount-requires
-    read-ordinal-requires
-    read-charge-requires
+    read-field-requires
+    read-field-requires-2
+    read-two-requires
     read-mark-requires
-    read-kind-requires
-    read-reading-requires
+    read-field-requires-3
+    read-two-requires-2
     returns
     returns-2
     returns-3

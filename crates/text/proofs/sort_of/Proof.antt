@@ -5,7 +5,7 @@ use mathlib.Core.List.{List}
 use Prim.Native.Nat.{ℕ}
 use borrow.Author.Needs.{needs}
 use Rattle.scanner.specs.Scanner.{same}
-use Rattle.text.specs.Text.{sortOf, wPay, wReverse, wCredit, wCharge, wEstimate, wRead, wWarn, wMark, wPlan, wDisconnect, wConnect}
+use Rattle.text.specs.Text.{sortOf, wPay, wReverse, wCredit, wCharge, wEstimate, wRead}
 use Rattle.text.proofs.sort_of.Statement.{statement}
 use Rattle.text.proofs.sort_of.Tie as tie
 
@@ -28,21 +28,6 @@ v5 c = v4 (c .before .before .before)
 abbrev v6 : tie.Else6 → List ℕ
 v6 c = v5 (c .before .before .before)
 
-abbrev v7 : tie.Else7 → List ℕ
-v7 c = v6 (c .before .before .before)
-
-abbrev v8 : tie.Else8 → List ℕ
-v8 c = v7 (c .before .before .before)
-
-abbrev v9 : tie.Else9 → List ℕ
-v9 c = v8 (c .before .before .before)
-
-abbrev v10 : tie.Else10 → List ℕ
-v10 c = v9 (c .before .before .before)
-
-abbrev v11 : tie.Else11 → List ℕ
-v11 c = v10 (c .before .before .before)
-
 no-1 : (c : tie.Else1) → same wPay (v1 c) ≡ false
 no-1 c = sym (c .before .same .ensures) ∙ c .if1 .left
 
@@ -60,21 +45,6 @@ no-5 c = sym (c .before .same5 .ensures) ∙ c .if5 .left
 
 no-6 : (c : tie.Else6) → same wRead (v6 c) ≡ false
 no-6 c = sym (c .before .same6 .ensures) ∙ c .if6 .left
-
-no-7 : (c : tie.Else7) → same wWarn (v7 c) ≡ false
-no-7 c = sym (c .before .same7 .ensures) ∙ c .if7 .left
-
-no-8 : (c : tie.Else8) → same wMark (v8 c) ≡ false
-no-8 c = sym (c .before .same8 .ensures) ∙ c .if8 .left
-
-no-9 : (c : tie.Else9) → same wPlan (v9 c) ≡ false
-no-9 c = sym (c .before .same9 .ensures) ∙ c .if9 .left
-
-no-10 : (c : tie.Else10) → same wDisconnect (v10 c) ≡ false
-no-10 c = sym (c .before .same10 .ensures) ∙ c .if10 .left
-
-no-11 : (c : tie.Else11) → same wConnect (v11 c) ≡ false
-no-11 c = sym (c .before .same11 .ensures) ∙ c .if11 .left
 
 slice-aggregate-same : tie.Need-slice-aggregate-same
 slice-aggregate-same c = search needs
@@ -136,59 +106,12 @@ returns-6 : tie.Need-returns-6
 unfolding sortOf
 returns-6 c = simp (no-1 (c .before .before .before .before .before .before .before .before .before .before .before .before .before .before .before), no-2 (c .before .before .before .before .before .before .before .before .before .before .before .before), no-3 (c .before .before .before .before .before .before .before .before .before), no-4 (c .before .before .before .before .before .before), no-5 (c .before .before .before), sym (c .before .same6 .ensures) ∙ c .if6 .taken)
 
-slice-aggregate-same-7 : tie.Need-slice-aggregate-same-7
-slice-aggregate-same-7 c = search needs
-
-same-requires-7 : tie.Need-same-requires-7
-same-requires-7 c κs = search needs
+service-of-requires : tie.Need-service-of-requires
+service-of-requires c κs = search needs
 
 returns-7 : tie.Need-returns-7
 unfolding sortOf
-returns-7 c = simp (no-1 (c .before .before .before .before .before .before .before .before .before .before .before .before .before .before .before .before .before .before), no-2 (c .before .before .before .before .before .before .before .before .before .before .before .before .before .before .before), no-3 (c .before .before .before .before .before .before .before .before .before .before .before .before), no-4 (c .before .before .before .before .before .before .before .before .before), no-5 (c .before .before .before .before .before .before), no-6 (c .before .before .before), sym (c .before .same7 .ensures) ∙ c .if7 .taken)
-
-slice-aggregate-same-8 : tie.Need-slice-aggregate-same-8
-slice-aggregate-same-8 c = search needs
-
-same-requires-8 : tie.Need-same-requires-8
-same-requires-8 c κs = search needs
-
-returns-8 : tie.Need-returns-8
-unfolding sortOf
-returns-8 c = simp (no-1 (c .before .before .before .before .before .before .before .before .before .before .before .before .before .before .before .before .before .before .before .before .before), no-2 (c .before .before .before .before .before .before .before .before .before .before .before .before .before .before .before .before .before .before), no-3 (c .before .before .before .before .before .before .before .before .before .before .before .before .before .before .before), no-4 (c .before .before .before .before .before .before .before .before .before .before .before .before), no-5 (c .before .before .before .before .before .before .before .before .before), no-6 (c .before .before .before .before .before .before), no-7 (c .before .before .before), sym (c .before .same8 .ensures) ∙ c .if8 .taken)
-
-slice-aggregate-same-9 : tie.Need-slice-aggregate-same-9
-slice-aggregate-same-9 c = search needs
-
-same-requires-9 : tie.Need-same-requires-9
-same-requires-9 c κs = search needs
-
-returns-9 : tie.Need-returns-9
-unfolding sortOf
-returns-9 c = simp (no-1 (c .before .before .before .before .before .before .before .before .before .before .before .before .before .before .before .before .before .before .before .before .before .before .before .before), no-2 (c .before .before .before .before .before .before .before .before .before .before .before .before .before .before .before .before .before .before .before .before .before), no-3 (c .before .before .before .before .before .before .before .before .before .before .before .before .before .before .before .before .before .before), no-4 (c .before .before .before .before .before .before .before .before .before .before .before .before .before .before .before), no-5 (c .before .before .before .before .before .before .before .before .before .before .before .before), no-6 (c .before .before .before .before .before .before .before .before .before), no-7 (c .before .before .before .before .before .before), no-8 (c .before .before .before), sym (c .before .same9 .ensures) ∙ c .if9 .taken)
-
-slice-aggregate-same-10 : tie.Need-slice-aggregate-same-10
-slice-aggregate-same-10 c = search needs
-
-same-requires-10 : tie.Need-same-requires-10
-same-requires-10 c κs = search needs
-
-returns-10 : tie.Need-returns-10
-unfolding sortOf
-returns-10 c = simp (no-1 (c .before .before .before .before .before .before .before .before .before .before .before .before .before .before .before .before .before .before .before .before .before .before .before .before .before .before .before), no-2 (c .before .before .before .before .before .before .before .before .before .before .before .before .before .before .before .before .before .before .before .before .before .before .before .before), no-3 (c .before .before .before .before .before .before .before .before .before .before .before .before .before .before .before .before .before .before .before .before .before), no-4 (c .before .before .before .before .before .before .before .before .before .before .before .before .before .before .before .before .before .before), no-5 (c .before .before .before .before .before .before .before .before .before .before .before .before .before .before .before), no-6 (c .before .before .before .before .before .before .before .before .before .before .before .before), no-7 (c .before .before .before .before .before .before .before .before .before), no-8 (c .before .before .before .before .before .before), no-9 (c .before .before .before), sym (c .before .same10 .ensures) ∙ c .if10 .taken)
-
-slice-aggregate-same-11 : tie.Need-slice-aggregate-same-11
-slice-aggregate-same-11 c = search needs
-
-same-requires-11 : tie.Need-same-requires-11
-same-requires-11 c κs = search needs
-
-returns-11 : tie.Need-returns-11
-unfolding sortOf
-returns-11 c = simp (no-1 (c .before .before .before .before .before .before .before .before .before .before .before .before .before .before .before .before .before .before .before .before .before .before .before .before .before .before .before .before .before .before), no-2 (c .before .before .before .before .before .before .before .before .before .before .before .before .before .before .before .before .before .before .before .before .before .before .before .before .before .before .before), no-3 (c .before .before .before .before .before .before .before .before .before .before .before .before .before .before .before .before .before .before .before .before .before .before .before .before), no-4 (c .before .before .before .before .before .before .before .before .before .before .before .before .before .before .before .before .before .before .before .before .before), no-5 (c .before .before .before .before .before .before .before .before .before .before .before .before .before .before .before .before .before .before), no-6 (c .before .before .before .before .before .before .before .before .before .before .before .before .before .before .before), no-7 (c .before .before .before .before .before .before .before .before .before .before .before .before), no-8 (c .before .before .before .before .before .before .before .before .before), no-9 (c .before .before .before .before .before .before), no-10 (c .before .before .before), sym (c .before .same11 .ensures) ∙ c .if11 .taken)
-
-returns-12 : tie.Need-returns-12
-unfolding sortOf
-returns-12 c = simp (no-1 (c .before .before .before .before .before .before .before .before .before .before .before .before .before .before .before .before .before .before .before .before .before .before .before .before .before .before .before .before .before .before), no-2 (c .before .before .before .before .before .before .before .before .before .before .before .before .before .before .before .before .before .before .before .before .before .before .before .before .before .before .before), no-3 (c .before .before .before .before .before .before .before .before .before .before .before .before .before .before .before .before .before .before .before .before .before .before .before .before), no-4 (c .before .before .before .before .before .before .before .before .before .before .before .before .before .before .before .before .before .before .before .before .before), no-5 (c .before .before .before .before .before .before .before .before .before .before .before .before .before .before .before .before .before .before), no-6 (c .before .before .before .before .before .before .before .before .before .before .before .before .before .before .before), no-7 (c .before .before .before .before .before .before .before .before .before .before .before .before), no-8 (c .before .before .before .before .before .before .before .before .before), no-9 (c .before .before .before .before .before .before), no-10 (c .before .before .before), no-11 (c))
+returns-7 c = simp (no-1 (c .before .before .before .before .before .before .before .before .before .before .before .before .before .before .before .before), no-2 (c .before .before .before .before .before .before .before .before .before .before .before .before .before), no-3 (c .before .before .before .before .before .before .before .before .before .before), no-4 (c .before .before .before .before .before .before .before), no-5 (c .before .before .before .before), no-6 (c .before)) (c .service-of .ensures)
 
 pub sort-of-spec : {M : Type 1} → statement M
 sort-of-spec =
@@ -212,19 +135,5 @@ sort-of-spec =
     slice-aggregate-same-6
     same-requires-6
     returns-6
-    slice-aggregate-same-7
-    same-requires-7
-    returns-7
-    slice-aggregate-same-8
-    same-requires-8
-    returns-8
-    slice-aggregate-same-9
-    same-requires-9
-    returns-9
-    slice-aggregate-same-10
-    same-requires-10
-    returns-10
-    slice-aggregate-same-11
-    same-requires-11
-    returns-11
-    returns-12)
+    service-of-requires
+    returns-7)

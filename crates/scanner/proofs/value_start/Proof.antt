@@ -1,0 +1,98 @@
+-- `scanner::value_start` meets its contract. The loop's invariant: what is left of the key and the text gives the same.
+-- Assumes nothing.
+use Prim.Native.Nat.{_-_}
+use mathlib.Core.Path.{_≡_, refl, _∙_}
+use mathlib.Core.List.{[], _∷_, _++_}
+use lib.ListN.{length, drop}
+use borrow.Author.Needs.{needs}
+use Rattle.scanner.specs.Scanner.{after, equals}
+use Rattle.scanner.proofs.Lines.{text-ends, key-turn, key-other, key-ends, no-equals}
+use Rattle.scanner.proofs.value_start.Statement.{statement}
+use Rattle.scanner.proofs.value_start.Tie as tie
+
+abbrev Inv-loop : tie.InvT-loop
+Inv-loop text at key i₀ j₀ i j = after (key ++ equals ∷ []) (drop at text) ≡ after (drop i key ++ equals ∷ []) (drop j text)
+
+abbrev μ-loop : tie.MeasureT-loop
+μ-loop text at key i₀ j₀ i j = length key - i
+
+loop-holds : tie.Need-loop-holds Inv-loop μ-loop
+loop-holds c = refl
+
+returns : tie.Need-returns Inv-loop μ-loop
+returns c =
+    let l = c .before .before .loop in
+    let a = c .before .before .before .args in
+    l .inv ∙ text-ends (a .key .now) (a .text .now) (l .i) (l .j) (c .if1 .taken)
+
+shared-slice-read-if2 : tie.Need-shared-slice-read-if2 Inv-loop μ-loop
+shared-slice-read-if2 c = search needs
+
+shared-slice-read-if2-2 : tie.Need-shared-slice-read-if2-2 Inv-loop μ-loop
+shared-slice-read-if2-2 c = search needs
+
+returns-2 : tie.Need-returns-2 Inv-loop μ-loop
+returns-2 c =
+    let l = c .before .before .before .before .before .loop in
+    let a = c .before .before .before .before .before .before .args in
+    l .inv ∙ key-other (a .key .now) (a .text .now) (l .i) (l .j) (c .before .before .before .before .loop-test .taken) (c .before .before .before .if1 .left) (c .if2 .taken)
+
+add-i : tie.Need-add-i Inv-loop μ-loop
+add-i c = search needs
+
+add-j : tie.Need-add-j Inv-loop μ-loop
+add-j c = search needs
+
+loop-less : tie.Need-loop-less Inv-loop μ-loop
+loop-less c = search needs
+
+loop-again : tie.Need-loop-again Inv-loop μ-loop
+loop-again c =
+    let l = c .before .before .before .before .before .loop in
+    let a = c .before .before .before .before .before .before .args in
+    l .inv ∙ key-turn (a .key .now) (a .text .now) (l .i) (l .j) (c .before .before .before .before .loop-test .taken) (c .before .before .before .if1 .left) (c .if2 .left)
+
+returns-3 : tie.Need-returns-3 Inv-loop μ-loop
+returns-3 c =
+    let l = c .before .before .loop in
+    let a = c .before .before .before .args in
+    l .inv ∙ text-ends (a .key .now) (a .text .now) (l .i) (l .j) (c .if3 .taken)
+
+shared-slice-read-if4 : tie.Need-shared-slice-read-if4 Inv-loop μ-loop
+shared-slice-read-if4 c = search needs
+
+returns-4 : tie.Need-returns-4 Inv-loop μ-loop
+returns-4 c =
+    let l = c .before .before .before .before .loop in
+    let a = c .before .before .before .before .before .args in
+    l .inv ∙ no-equals (a .key .now) (a .text .now) (l .i) (l .j) (c .before .before .before .loop-test .left) (c .before .before .if3 .left) (c .if4 .taken)
+
+add-t12 : tie.Need-add-t12 Inv-loop μ-loop
+add-t12 c = search needs
+
+returns-5 : tie.Need-returns-5 Inv-loop μ-loop
+returns-5 c =
+    let l = c .before .before .before .before .loop in
+    let a = c .before .before .before .before .before .args in
+    (l .inv ∙ key-ends (a .key .now) (a .text .now) (l .i) (l .j) (c .before .before .before .loop-test .left) (c .before .before .if3 .left) (c .if4 .left), search needs)
+
+pub value-start-spec : {M : Type 1} → statement M
+value-start-spec =
+    tie.close
+    (tie.spec
+    Inv-loop
+    μ-loop
+    loop-holds
+    returns
+    shared-slice-read-if2
+    shared-slice-read-if2-2
+    returns-2
+    add-i
+    add-j
+    loop-less
+    loop-again
+    returns-3
+    shared-slice-read-if4
+    returns-4
+    add-t12
+    returns-5)

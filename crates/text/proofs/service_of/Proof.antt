@@ -1,0 +1,110 @@
+-- `text::service_of` meets its contract: each word in its turn. Assumes nothing.
+use mathlib.Core.Path.{_≡_, sym, _∙_}
+use mathlib.Core.Bool.{false}
+use mathlib.Core.List.{List}
+use Prim.Native.Nat.{ℕ}
+use borrow.Author.Needs.{needs}
+use Rattle.scanner.specs.Scanner.{same}
+use Rattle.text.specs.Text.{wWarn, wMark, wPlan, wDisconnect, wConnect}
+use Rattle.text.proofs.service_of.Statement.{statement}
+use Rattle.text.proofs.service_of.Tie as tie
+
+-- the value, and that it is none of the words so far
+abbrev v1 : tie.Else1 → List ℕ
+v1 c = c .before .before .before .before .args .value .now
+
+abbrev v2 : tie.Else2 → List ℕ
+v2 c = v1 (c .before .before .before)
+
+abbrev v3 : tie.Else3 → List ℕ
+v3 c = v2 (c .before .before .before)
+
+abbrev v4 : tie.Else4 → List ℕ
+v4 c = v3 (c .before .before .before)
+
+abbrev v5 : tie.Else5 → List ℕ
+v5 c = v4 (c .before .before .before)
+
+no-1 : (c : tie.Else1) → same wWarn (v1 c) ≡ false
+no-1 c = sym (c .before .same .ensures) ∙ c .if1 .left
+
+no-2 : (c : tie.Else2) → same wMark (v2 c) ≡ false
+no-2 c = sym (c .before .same2 .ensures) ∙ c .if2 .left
+
+no-3 : (c : tie.Else3) → same wPlan (v3 c) ≡ false
+no-3 c = sym (c .before .same3 .ensures) ∙ c .if3 .left
+
+no-4 : (c : tie.Else4) → same wDisconnect (v4 c) ≡ false
+no-4 c = sym (c .before .same4 .ensures) ∙ c .if4 .left
+
+no-5 : (c : tie.Else5) → same wConnect (v5 c) ≡ false
+no-5 c = sym (c .before .same5 .ensures) ∙ c .if5 .left
+
+slice-aggregate-same : tie.Need-slice-aggregate-same
+slice-aggregate-same c = search needs
+
+same-requires : tie.Need-same-requires
+same-requires c κs = search needs
+
+returns : tie.Need-returns
+returns c = simp (sym (c .before .same .ensures) ∙ c .if1 .taken)
+
+slice-aggregate-same-2 : tie.Need-slice-aggregate-same-2
+slice-aggregate-same-2 c = search needs
+
+same-requires-2 : tie.Need-same-requires-2
+same-requires-2 c κs = search needs
+
+returns-2 : tie.Need-returns-2
+returns-2 c = simp (no-1 (c .before .before .before), sym (c .before .same2 .ensures) ∙ c .if2 .taken)
+
+slice-aggregate-same-3 : tie.Need-slice-aggregate-same-3
+slice-aggregate-same-3 c = search needs
+
+same-requires-3 : tie.Need-same-requires-3
+same-requires-3 c κs = search needs
+
+returns-3 : tie.Need-returns-3
+returns-3 c = simp (no-1 (c .before .before .before .before .before .before), no-2 (c .before .before .before), sym (c .before .same3 .ensures) ∙ c .if3 .taken)
+
+slice-aggregate-same-4 : tie.Need-slice-aggregate-same-4
+slice-aggregate-same-4 c = search needs
+
+same-requires-4 : tie.Need-same-requires-4
+same-requires-4 c κs = search needs
+
+returns-4 : tie.Need-returns-4
+returns-4 c = simp (no-1 (c .before .before .before .before .before .before .before .before .before), no-2 (c .before .before .before .before .before .before), no-3 (c .before .before .before), sym (c .before .same4 .ensures) ∙ c .if4 .taken)
+
+slice-aggregate-same-5 : tie.Need-slice-aggregate-same-5
+slice-aggregate-same-5 c = search needs
+
+same-requires-5 : tie.Need-same-requires-5
+same-requires-5 c κs = search needs
+
+returns-5 : tie.Need-returns-5
+returns-5 c = simp (no-1 (c .before .before .before .before .before .before .before .before .before .before .before .before), no-2 (c .before .before .before .before .before .before .before .before .before), no-3 (c .before .before .before .before .before .before), no-4 (c .before .before .before), sym (c .before .same5 .ensures) ∙ c .if5 .taken)
+
+returns-6 : tie.Need-returns-6
+returns-6 c = simp (no-1 (c .before .before .before .before .before .before .before .before .before .before .before .before), no-2 (c .before .before .before .before .before .before .before .before .before), no-3 (c .before .before .before .before .before .before), no-4 (c .before .before .before), no-5 c)
+
+pub service-of-spec : {M : Type 1} → statement M
+service-of-spec =
+    tie.close
+    (tie.spec
+    slice-aggregate-same
+    same-requires
+    returns
+    slice-aggregate-same-2
+    same-requires-2
+    returns-2
+    slice-aggregate-same-3
+    same-requires-3
+    returns-3
+    slice-aggregate-same-4
+    same-requires-4
+    returns-4
+    slice-aggregate-same-5
+    same-requires-5
+    returns-5
+    returns-6)
