@@ -1,4 +1,4 @@
--- `account_test::bench::size_of` is safe: the casts are made of numbers that are not negative, and no negation leaves 64 bits.
+-- `account_test::size_of` is safe: the casts are made of numbers that are not negative, and no negation leaves 64 bits.
 -- Assumes nothing.
 use mathlib.Core.Path.{_≡_, sym, subst, _∙_}
 use mathlib.Core.Bool.{true, false}
@@ -13,8 +13,8 @@ use mir.Syntax.{w64}
 use mir.Val.{Fits, SFits, toZ, ofZ}
 use mir.ValLaws.{toZ-ofZ}
 use mir.Facts.{fits-natAbs}
-use Rattle.account_test.proofs.bench.size_of.Statement.{statement}
-use Rattle.account_test.proofs.bench.size_of.Tie as tie
+use Rattle.account_test.proofs.size_of.Statement.{statement}
+use Rattle.account_test.proofs.size_of.Tie as tie
 
 -- what the machine reads back of a number that fits, fits
 back : (z : ℤ) → SFits w64 z → SFits w64 (toZ w64 (ofZ w64 z))

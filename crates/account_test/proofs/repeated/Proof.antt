@@ -1,9 +1,9 @@
--- `account_test::bench::repeated` is safe and ends. The measure is the number of events left; nothing has to hold from turn to turn.
+-- `account_test::repeated` is safe and ends. The measure is the number of events left; nothing has to hold from turn to turn.
 -- Assumes nothing.
 use Prim.Native.Nat.{_-_}
 use native.Mathlib.Omega.{arith}
-use Rattle.account_test.proofs.bench.repeated.Statement.{statement}
-use Rattle.account_test.proofs.bench.repeated.Tie as tie
+use Rattle.account_test.proofs.repeated.Statement.{statement}
+use Rattle.account_test.proofs.repeated.Tie as tie
 
 abbrev Inv-loop : tie.InvT-loop
 Inv-loop e n each p₀ code₀ i₀ p code i = Unit {0}
