@@ -47,7 +47,7 @@ seen-is t a l v r s b q =
     let balance : v .balance ≡ l .balance = q .balance ∙ balance-is t (a .totals) l (g .sums) (g .bounds) in
     let plan : v .plan ≡ l .plan = q .plan ∙ g .sums .plan in
     let on : v .on ≡ l .on = q .on ∙ g .sums .on in
-    let settled-read = q .settled ∙ settled-reads t (a .totals) l (g .sums) (g .bounds) (s .sane) in
+    let settled-read = q .settled ∙ settled-reads t (a .totals) l (g .sums) (g .bounds) (s .invariant) in
     let standing-read = q .standing ∙ g .sums .standing in
     λ i. record { back = b i; balance = balance i; plan = plan i; on = on i; settled = settled-read i; standing = standing-read i }
 
@@ -101,7 +101,7 @@ reads-are t a l r s =
       balance = sym (balance-is t (a .totals) l (g .sums) (g .bounds));
       plan = sym (g .sums .plan);
       on = sym (g .sums .on);
-      settled = sym (settled-reads t (a .totals) l (g .sums) (g .bounds) (s .sane));
+      settled = sym (settled-reads t (a .totals) l (g .sums) (g .bounds) (s .invariant));
       standing = sym (g .sums .standing);
     }
 
@@ -186,7 +186,7 @@ demand-3 t v = record {
     stands es = stands-after t v es (fresh t) opening (refinement-holds t v .opens)
 
     identity : (es : List Event) → after t es .balance -ℤ pos (after t es .plan) +ℤ pos (standing t (after t es .list)) ≡ settled t (after t es .list)
-    identity es = settled-is t (after t es) (stands es .sane)
+    identity es = settled-is t (after t es) (stands es .invariant)
 
     none : (es : List Event) → (standing t (after t es .list) ≡ 0) ↔ ((u : ℕ) → estimateCost (usageDay t (after t es .list) u) ≡ 0)
-    none es = standing-none t (after t es) (stands es .sane)
+    none es = standing-none t (after t es) (stands es .invariant)

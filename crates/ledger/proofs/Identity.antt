@@ -21,24 +21,12 @@ use Rattle.ledger.specs.Ledger.{opening, Move, planPart, payMove, revers
 use Rattle.ledger.proofs.Cases.{decide, neither, both, other}
 use Rattle.ledger.proofs.Money.{diff, diff-eq, diff-add, diff-sub, diff-gap, diff-zero, diff-high, by-sign}
 use Rattle.ledger.proofs.Accepted.{Accepted, accepted-by}
-use Rattle.ledger.proofs.Weights.{All, all-map, sum-same, weigh, take-out, one-weighs, given-once}
+use Rattle.ledger.specs.Invariant.{All, UsedBefore, Invariant}
+use Rattle.ledger.proofs.Weights.{all-map, sum-same, weigh, take-out, one-weighs, given-once}
 
--- an estimate or a read is of a day before d
-abbrev pub UsedBefore : ℕ → Entry → Type 0
-UsedBefore d x = (isEstimate (x .event) || isRead (x .event)) ≡ true → x .event .usage < d
-
-pub record Sane (t : Terms) (l : Ledger) : Type 0 where
-  pub identity : l .balance ≡ diff (kept (l .list) + credits (l .list) + l .plan) (charges (l .list) + reads t (l .list) + standing t (l .list))
-  pub share : t .share ≤ 100
-  -- only a payment that was made is reversed
-  pub numbers : (n : ℕ) → reversed n (l .list) ≡ true → n < payments (l .list)
-  pub parts : (n : ℕ) → payment n (l .list) .part ≤ payment n (l .list) .event .amount
-  pub once : (u : ℕ) → count (estimateOn u) (l .list) ≤ 1
-  pub past : All (UsedBefore (lastDay (l .list))) (l .list)
-
-pub sane-opening : (t : Terms) → t .share ≤ 100 → Sane t opening
+pub invariant-opening : (t : Terms) → t .share ≤ 100 → Invariant t opening
 unfolding kept credits charges reads standing sum reversed any payment find count
-sane-opening t h = record {
+invariant-opening t h = record {
   identity = refl;
   share = h;
   numbers = λ n r. absurd (true≢false (sym r));
@@ -48,13 +36,13 @@ sane-opening t h = record {
 }
 
 -- "`share`: 0 to 50"
-pub sane-valid : (t : Terms) → validTerms t ≡ true → Sane t opening
+pub invariant-valid : (t : Terms) → validTerms t ≡ true → Invariant t opening
 unfolding validTerms
-sane-valid t v = sane-opening t (decide (leb (t .share) 50)
+invariant-valid t v = invariant-opening t (decide (leb (t .share) 50)
     (λ y. omega (arith, leb-true (t .share) 50 y))
     (λ f. absurd (true≢false (sym (simp (f, and-false) at v)))))
 
-pub settled-is : (t : Terms) (l : Ledger) → Sane t l → l .balance -ℤ pos (l .plan) +ℤ pos (standing t (l .list)) ≡ settled t (l .list)
+pub settled-is : (t : Terms) (l : Ledger) → Invariant t l → l .balance -ℤ pos (l .plan) +ℤ pos (standing t (l .list)) ≡ settled t (l .list)
 unfolding settled
 settled-is t l s =
     let c : ℕ = kept (l .list) + credits (l .list) in
@@ -159,7 +147,7 @@ outflow t l e =
     + cond (isEstimate e) (eventCost t l e) 0
     + cond (isRead e) (eventCost t l e) 0
 
-module _ (t : Terms) (l : Ledger) (e : Event) (p : ℕ) (s : Sane t l) (a : Accepted t l e) where
+module _ (t : Terms) (l : Ledger) (e : Event) (p : ℕ) (s : Invariant t l) (a : Accepted t l e) where
   past-then : All (UsedBefore (e .day)) (l .list)
   past-then = all-map (UsedBefore (lastDay (l .list))) (UsedBefore (e .day)) (λ y h u. omega (arith, h u, a .order)) (l .list) (s .past)
 
@@ -229,7 +217,7 @@ record Fits (t : Terms) (l : Ledger) (e : Event) (m : Move) : Type 0 where
   fits : let k = entryOf e (m .part) ∷ l .list in m .balance ≡ diff (kept k + credits k + m .plan) (charges k + reads t k + standing t k)
   least : m .part ≤ e .amount
 
-module _ (t : Terms) (l : Ledger) (e : Event) (s : Sane t l) (a : Accepted t l e) where
+module _ (t : Terms) (l : Ledger) (e : Event) (s : Invariant t l) (a : Accepted t l e) where
   -- B moves by i - o, R as the flow leaves it
   settle : (m : Move) (i o : ℕ) → m .balance ≡ l .balance +ℤ pos i -ℤ pos o → l .plan + i + outflow t l e ≡ m .plan + o + inflow t l e → m .part ≤ e .amount → Fits t l e m
   settle m i o b f h =
@@ -328,9 +316,9 @@ module _ (t : Terms) (l : Ledger) (e : Event) (s : Sane t l) (a : Accepted t l e
       simp y (omega (arith, none-counts (estimateOn u) (l .list) (rw (eqb-true (e .usage) u (b .1)) at (blank-before t l e p s a (b .0) .1)))))
       (λ f. simp f (omega (arith, s .once u)))
 
-  sane-then : (m : Move) → Fits t l e m → Sane t (moved l e m)
+  invariant-then : (m : Move) → Fits t l e m → Invariant t (moved l e m)
   unfolding lastDay
-  sane-then m f = record {
+  invariant-then m f = record {
     identity = f .fits;
     share = s .share;
     numbers = numbers-then (m .part);
@@ -339,8 +327,8 @@ module _ (t : Terms) (l : Ledger) (e : Event) (s : Sane t l) (a : Accepted t l e
     past = (used-before t l e (m .part) s a, past-then t l e (m .part) s a);
   }
 
-pub sane-step : (t : Terms) (l : Ledger) (e : Event) → Sane t l → Sane t (ledgerStep t l e .ledger)
+pub invariant-step : (t : Terms) (l : Ledger) (e : Event) → Invariant t l → Invariant t (ledgerStep t l e .ledger)
 unfolding ledgerStep
-sane-step t l e s = decide (accepts t l e)
-    (λ y. simp y (let a = accepted-by t l e y in sane-then t l e s a (moveOf t l e) (move-fits t l e s a)))
+invariant-step t l e s = decide (accepts t l e)
+    (λ y. simp y (let a = accepted-by t l e y in invariant-then t l e s a (moveOf t l e) (move-fits t l e s a)))
     (λ n. simp n s)

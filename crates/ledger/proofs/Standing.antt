@@ -14,8 +14,9 @@ use Rattle.ledger.specs.Entries.{Entry, Entries, any, sum, readOn, estim
 use Rattle.ledger.specs.Rules.{Ledger}
 use Rattle.ledger.specs.Sums.{standing}
 use Rattle.ledger.proofs.Cases.{decide, both}
-use Rattle.ledger.proofs.Weights.{All, all-map, weigh, take-out}
-use Rattle.ledger.proofs.Identity.{Sane, replaced}
+use Rattle.ledger.specs.Invariant.{All, Invariant}
+use Rattle.ledger.proofs.Weights.{all-map, weigh, take-out}
+use Rattle.ledger.proofs.Identity.{replaced}
 
 -- where a sum is 0, each of its parts is
 each-zero : (m : Entry → Bool) (w : Entry → ℕ) (l : Entries) → weigh (λ (x : Entry) (b : Entries). m x) w l ≡ 0 → All (λ (x : Entry). m x ≡ true → w x ≡ 0) l
@@ -37,7 +38,7 @@ all-units : (l : Entries) → All (λ (x : Entry). Unit) l
 all-units [] = tt
 all-units (x ∷ l) = (tt, all-units l)
 
-module _ (t : Terms) (l : Ledger) (s : Sane t l) where
+module _ (t : Terms) (l : Ledger) (s : Invariant t l) where
   unread-cost : (u : ℕ) → any (readOn u) (l .list) ≡ false
       → weigh (λ (y : Entry) (b : Entries). isEstimate (y .event) && eqb (y .event .usage) u) (λ (y : Entry). costIn t (l .list) (y .event)) (l .list) ≡ estimateCost (usageDay t (l .list) u)
   unread-cost u f = replaced t (l .list) u (s .once u) f

@@ -9,12 +9,8 @@ use lib.Dec.{eqb}
 use borrow.Author.Tests.{eqb-true, eqb-false, eq-eqb, ne-eqb}
 use Rattle.ledger.specs.Event.{isPay}
 use Rattle.ledger.specs.Entries.{Entry, Entries, count, sum, noEntry, find, payments, hasNumber}
+use Rattle.ledger.specs.Invariant.{All}
 use Rattle.ledger.proofs.Cases.{decide, both}
-
--- what holds of every entry
-abbrev pub All : (Entry → Type 0) → Entries → Type 0
-All P [] = Unit {0}
-All P (x ∷ l) = P x × All P l
 
 pub all-map : (P Q : Entry → Type 0) → ((x : Entry) → P x → Q x) → (l : Entries) → All P l → All Q l
 all-map P Q h [] a = tt

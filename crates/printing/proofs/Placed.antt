@@ -1,11 +1,14 @@
 -- Bytes that fit, one thing after the other. Assumes nothing.
 use mathlib.Core.Path.{_≡_, sym, ap, _∙_}
+use mathlib.Core.Bool.{Bool, true, false, cond}
 use mathlib.Core.List.{List, _++_, append-assoc}
-use Prim.Native.Nat.{ℕ, _+_, _≤_}
+use Prim.Native.Nat.{ℕ, _+_, _≤_, _<_}
 use native.Mathlib.Nat.{zero-add}
 use native.Mathlib.Omega.{arith}
 use lib.ListN.{length, drop, length-append}
-use Rattle.printing.specs.Printing.{over, Puts, Wrote}
+use lib.Dec.{ltb}
+use borrow.Author.Tests.{lt-ltb, le-ltb}
+use Rattle.printing.specs.Printing.{over, Puts, Wrote, Whole}
 use Rattle.printing.proofs.Laws.{length-over, over-over, put-fits, past-fits, puts-all}
 
 module _ {b : List ℕ} {at : ℕ} {x after : List ℕ} {r : ℕ} where
@@ -61,3 +64,22 @@ module _ {b : List ℕ} {at : ℕ} (word digits : List ℕ) (most : ℕ) {after 
 pub from-start : (b x : List ℕ) → over b 0 x ≡ x ++ drop (length x) b
 unfolding over
 from-start b x = rw (zero-add (length x))
+
+-- ---- all of the bytes or none
+
+pub none-put : (room : ℕ) (bytes before : List ℕ) → length before < room → Whole room bytes before before 0
+none-put room bytes before h = record { answer = simp (lt-ltb (length before) room h); buffer = simp (lt-ltb (length before) room h) }
+
+pub all-put : (room : ℕ) (bytes : List ℕ) {before x after : List ℕ} {r : ℕ} → room ≤ length before → Wrote before 0 x after r → bytes ≡ x → Whole room bytes before after r
+all-put room bytes {before} {x} {after} {r} h w e = record {
+  answer = simp (le-ltb (length before) room h) (w .next ∙ zero-add (length x) ∙ ap length (sym e));
+  buffer = simp (le-ltb (length before) room h) (w .buffer ∙ from-start before x ∙ ap (λ (y : List ℕ). y ++ drop (length y) before) (sym e));
+}
+
+-- the answer counts bytes of the buffer
+count-within : (short : Bool) (bytes before after : List ℕ) (r : ℕ) → r ≡ cond short 0 (length bytes) → after ≡ cond short before (bytes ++ drop (length bytes) before) → r ≤ length after
+count-within true bytes before after r e f = omega arith
+count-within false bytes before after r e f = omega (arith, simp length-append at (ap length f))
+
+pub within : (room : ℕ) (bytes before after : List ℕ) (r : ℕ) → Whole room bytes before after r → r ≤ length after
+within room bytes before after r w = count-within (ltb (length before) room) bytes before after r (w .answer) (w .buffer)

@@ -44,3 +44,9 @@ pub record Wrote (before : List ℕ) (at : ℕ) (bytes after : List ℕ) (r : �
   pub buffer : after ≡ over before at bytes
   pub next : r ≡ at + length bytes
   pub room : at + length bytes ≤ length before
+
+-- What a call leaves that puts all of its bytes or none: in a buffer of `room` bytes or more they stand from its start on, their number is the
+-- answer, and the bytes past them are as they were; in a shorter one nothing is put, and the answer is 0.
+pub record Whole (room : ℕ) (bytes before after : List ℕ) (r : ℕ) : Type 0 where
+  pub answer : r ≡ cond (ltb (length before) room) 0 (length bytes)
+  pub buffer : after ≡ cond (ltb (length before) room) before (bytes ++ drop (length bytes) before)

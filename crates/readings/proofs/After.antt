@@ -14,7 +14,8 @@ use Rattle.ledger.specs.Rules.{Ledger}
 use Rattle.ledger.specs.Sums as sums
 use Rattle.ledger.specs.Ledger.{opening, ledgerStep, ledgerAfter}
 use Rattle.ledger.proofs.Money.{diff, diff-add, diff-sub}
-use Rattle.ledger.proofs.Identity.{Sane, settled-is}
+use Rattle.ledger.specs.Invariant.{Invariant}
+use Rattle.ledger.proofs.Identity.{settled-is}
 use Rattle.account.specs.Record.{fresh}
 use Rattle.moves.specs.Moves.{most}
 use Rattle.account.specs.Head.{stepOf}
@@ -37,7 +38,7 @@ module _ (t : Terms) (s : Totals) (l : Ledger) (g : Sums t s l) (b : Bounds s) w
   unfolding balanceOf
   balance-is = simp (le-leb (s .credit) 1152921504606846976 (omega (arith, b .credit, b .full)), le-leb (s .debit) 1152921504606846976 (omega (arith, b .debit, b .full))) (sym (g .balance))
 
-  pub settled-reads : Sane t l → settledOf s ≡ sums.settled t (l .list)
+  pub settled-reads : Invariant t l → settledOf s ≡ sums.settled t (l .list)
   unfolding settledOf
   settled-reads q =
       simp (le-leb (s .credit) 1152921504606846976 (omega (arith, b .credit, b .full)), le-leb (s .debit) 1152921504606846976 (omega (arith, b .debit, b .full)), le-leb (s .plan) 1152921504606846976 (omega (arith, b .plan, b .full)), le-leb (s .standing) 1152921504606846976 (omega (arith, b .standing, b .full)))
@@ -70,7 +71,7 @@ module _ (s : Totals) (t : Terms) (es : List Event) (m : Made s t es) where
   on-made = sums-after .on
 
   pub settled-made : settledOf s ≡ sums.settled t (ledgerAfter t opening es .list)
-  settled-made = settled-reads t s (ledgerAfter t opening es) sums-after bounds-after (after .sane)
+  settled-made = settled-reads t s (ledgerAfter t opening es) sums-after bounds-after (after .invariant)
 
   pub standing-made : s .standing ≡ sums.standing t (ledgerAfter t opening es .list)
   standing-made = sums-after .standing

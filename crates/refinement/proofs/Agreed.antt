@@ -20,7 +20,8 @@ use Rattle.ledger.specs.Months.{chargesIn}
 use Rattle.ledger.specs.Ledger.{Move, Outcome, moveOf, moved, answer, refusal, accepts, ledgerStep}
 use Rattle.ledger.proofs.Cases.{neither}
 use Rattle.ledger.proofs.Accepted.{Accepted, accepted-by}
-use Rattle.ledger.proofs.Identity.{Sane, standing-then}
+use Rattle.ledger.specs.Invariant.{Invariant}
+use Rattle.ledger.proofs.Identity.{standing-then}
 use Rattle.account.specs.Record.{blankDay, noPayment, refused}
 use Rattle.moves.specs.Moves.{isAccount, earlyCode}
 use Rattle.account.specs.declared.Account.{Account}
@@ -58,7 +59,7 @@ module _ (t : Terms) (a : Account) (l : Ledger) (g : Agree t a l) where
       pub facts : Early t (a .totals) e
       facts = rw (g .terms) at (early (a .terms) (a .totals) e passed)
 
-      module _ (s : Sane t l) (z : refusal t l e ≡ 0) where
+      module _ (s : Invariant t l) (z : refusal t l e ≡ 0) where
         taken : Accepted t l e
         taken = accepted-by t l e (eq-eqb (refusal t l e) 0 z)
 

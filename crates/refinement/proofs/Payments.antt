@@ -22,7 +22,7 @@ use Rattle.ledger.specs.Months.{monthOf}
 use Rattle.ledger.specs.Ledger.{Move, planPart, payMove, reverseMove, balanceMove, moved, refusal, ledgerStep}
 use Rattle.ledger.proofs.Cases.{decide, neither}
 use Rattle.ledger.proofs.Money.{diff, diff-add, diff-sub}
-use Rattle.ledger.proofs.Identity.{Sane}
+use Rattle.ledger.specs.Invariant.{Invariant}
 use Rattle.account.specs.Record.{refused, noPayment}
 use Rattle.account.specs.Head.{payOf, reverseOf, creditOf, chargeOf, partOf, paymentAt, chargeAt}
 use Rattle.account.specs.declared.Account.{Account}
@@ -34,7 +34,7 @@ use Rattle.refinement.proofs.Refusals.{Passes, pay-code, reverse-code, 
 use Rattle.refinement.proofs.Keeps.{payments-stay, days-stay, marks-stay, warned-stay, charges-stay, charges-set, payments-set, payments-reverse}
 use Rattle.refinement.proofs.Agreed.{refused-same, facts, standing-is, standing-still, agreed}
 
-module _ (t : Terms) (a : Account) (l : Ledger) (e : Event) (g : Agree t a l) (s : Sane t l) (h : Passes l e) where
+module _ (t : Terms) (a : Account) (l : Ledger) (e : Event) (g : Agree t a l) (s : Invariant t l) (h : Passes l e) where
   part-is : partOf a e ≡ planPart t l (e .amount)
   unfolding planPart
   part-is = rw (g .terms, g .sums .plan) refl

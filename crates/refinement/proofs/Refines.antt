@@ -19,7 +19,8 @@ use Rattle.ledger.specs.Months.{chargesIn}
 use Rattle.ledger.specs.Ledger.{opening, ledgerStep}
 use Rattle.ledger.specs.Entries as entries
 use Rattle.ledger.proofs.Cases.{decide}
-use Rattle.ledger.proofs.Identity.{Sane, sane-valid, sane-step}
+use Rattle.ledger.specs.Invariant.{Invariant}
+use Rattle.ledger.proofs.Identity.{invariant-valid, invariant-step}
 use Rattle.account.specs.Record.{fresh, blankDay, noPayment}
 use Rattle.moves.specs.Moves.{earlyCode}
 use Rattle.account.specs.Head.{bySort, stepOf}
@@ -31,7 +32,7 @@ use Rattle.refinement.proofs.Payments.{pay-same, reverse-same, credit-s
 use Rattle.refinement.proofs.Usage.{estimate-same, read-same}
 use Rattle.refinement.proofs.Service.{warn-same, mark-same, plan-same, disconnect-same, connect-same}
 
-module _ (t : Terms) (a : Account) (l : Ledger) (e : Event) (s : Sane t l) (g : Agree t a l) where
+module _ (t : Terms) (a : Account) (l : Ledger) (e : Event) (s : Invariant t l) (g : Agree t a l) where
   no-sort : eqb (e .sort) 1 ≡ false → eqb (e .sort) 2 ≡ false → eqb (e .sort) 3 ≡ false → eqb (e .sort) 4 ≡ false → eqb (e .sort) 5 ≡ false → eqb (e .sort) 6 ≡ false → eqb (e .sort) 7 ≡ false
       → eqb (e .sort) 8 ≡ false → eqb (e .sort) 9 ≡ false → eqb (e .sort) 10 ≡ false → eqb (e .sort) 11 ≡ false → inLimits e ≡ false
   unfolding inLimits
@@ -92,8 +93,8 @@ agree-fresh t v = record {
 
 pub refinement-holds : (t : Terms) → validTerms t ≡ true → Refinement t
 refinement-holds t v = record {
-  opens = record { agree = agree-fresh t v; sane = sane-valid t v };
-  code = λ a l e s. refines t a l e (s .sane) (s .agree) .code;
-  value = λ a l e s. refines t a l e (s .sane) (s .agree) .value;
-  again = λ a l e s. record { agree = refines t a l e (s .sane) (s .agree) .again; sane = sane-step t l e (s .sane) };
+  opens = record { agree = agree-fresh t v; invariant = invariant-valid t v };
+  code = λ a l e s. refines t a l e (s .invariant) (s .agree) .code;
+  value = λ a l e s. refines t a l e (s .invariant) (s .agree) .value;
+  again = λ a l e s. record { agree = refines t a l e (s .invariant) (s .agree) .again; invariant = invariant-step t l e (s .invariant) };
 }

@@ -27,7 +27,7 @@ use Rattle.ledger.specs.Sums.{standing}
 use Rattle.ledger.specs.Ledger.{Move, serviceMove, planMove, deferred, moveOf, moved, refusal, ledgerStep}
 use Rattle.ledger.proofs.Cases.{decide, both}
 use Rattle.ledger.proofs.Money.{diff, diff-eq, diff-zero, diff-lt, diff-ge, diff-low, diff-gap}
-use Rattle.ledger.proofs.Identity.{Sane}
+use Rattle.ledger.specs.Invariant.{Invariant}
 use Rattle.moves.specs.Moves.{tallied}
 use Rattle.account.specs.Record.{refused}
 use Rattle.moves.specs.Moves as moves
@@ -76,7 +76,7 @@ warned-day x (n ∷ l) y = decide (isWarn (n .event) && (leb (n .event .day + 1)
     })
     (λ f. let d = warned-day x l (simp f at y) in record { day = d .day; on = simp (d .on, or-true); before = d .before; after = d .after })
 
-module _ (t : Terms) (a : Account) (l : Ledger) (e : Event) (g : Agree t a l) (s : Sane t l) (h : Passes l e) where
+module _ (t : Terms) (a : Account) (l : Ledger) (e : Event) (g : Agree t a l) (s : Invariant t l) (h : Passes l e) where
   room : a .totals .events + 1 ≤ 4096
   room = omega (arith, facts t a l g e h .room)
 

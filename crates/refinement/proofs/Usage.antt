@@ -20,7 +20,8 @@ use Rattle.ledger.specs.Sums.{standing}
 use Rattle.ledger.specs.Ledger.{Move, estimateMove, readMove, eventCost, moved, refusal, ledgerStep}
 use Rattle.ledger.proofs.Cases.{decide, neither}
 use Rattle.ledger.proofs.Money.{diff, diff-add, diff-sub}
-use Rattle.ledger.proofs.Identity.{Sane, blank-is}
+use Rattle.ledger.specs.Invariant.{Invariant}
+use Rattle.ledger.proofs.Identity.{blank-is}
 use Rattle.account.specs.Record.{refused, blankDay, costHeld}
 use Rattle.moves.specs.Moves.{byUsage}
 use Rattle.account.specs.Head.{estimateOf, estimatedOf, readOf, meteredOf, newCost, usageAt}
@@ -35,7 +36,7 @@ use Rattle.refinement.proofs.Refusals.{Passes, estimate-code, read-code
 use Rattle.refinement.proofs.Keeps.{payments-stay, days-set, marks-stay, warned-stay, charges-stay}
 use Rattle.refinement.proofs.Agreed.{refused-same, facts, standing-is, agreed}
 
-module _ (t : Terms) (a : Account) (l : Ledger) (e : Event) (g : Agree t a l) (s : Sane t l) (h : Passes l e) where
+module _ (t : Terms) (a : Account) (l : Ledger) (e : Event) (g : Agree t a l) (s : Invariant t l) (h : Passes l e) where
   room : a .totals .events + 1 ≤ 4096
   room = omega (arith, facts t a l g e h .room)
 

@@ -13,7 +13,7 @@ use Rattle.ledger.specs.Event.{isWarn}
 use Rattle.ledger.specs.Entries.{Entries, any, lastDay, payments, payment, reversed, UsageDay, blank, estimated, metered, usageDay, covered}
 use Rattle.ledger.specs.Rules.{Ledger}
 use Rattle.ledger.specs.Ledger.{Outcome, opening, ledgerStep}
-use Rattle.ledger.proofs.Identity.{Sane}
+use Rattle.ledger.specs.Invariant.{Invariant}
 use Rattle.ledger.specs.Sums.{standing}
 use Rattle.ledger.specs.Months.{chargesIn}
 use Rattle.account.specs.Record.{blankDay, noPayment, costHeld, fresh}
@@ -102,7 +102,7 @@ pub record Same (t : Terms) (p : Posted) (o : Outcome) : Type 0 where
 -- The record stands for the ledger: they agree, and the ledger's sums add up.
 pub record Stands (t : Terms) (a : Account) (l : Ledger) : Type 0 where
   pub agree : Agree t a l
-  pub sane : Sane t l
+  pub invariant : Invariant t l
 
 -- The refinement: a fresh account stands for the opening ledger, and from an account that stands for a ledger every event gets the
 -- ledger's code and value and leaves an account that stands for the ledger after it.

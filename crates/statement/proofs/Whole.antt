@@ -3,18 +3,14 @@
 use Prim.Native.Nat.{ℕ, suc, _-_, _≤_, _<_}
 use mathlib.Core.Path.{_≡_, sym, ap, _∙_}
 use mathlib.Core.Bool.{true}
-use mathlib.Core.List.{List, _++_}
-use native.Mathlib.Nat.{zero-add}
-use native.Mathlib.Omega.{arith}
-use lib.ListN.{length, drop, length-append, length-drop}
-use lib.Dec.{ltb}
+use mathlib.Core.List.{List}
+use lib.ListN.{length, drop, length-drop}
 use borrow.Author.Tests.{lt-ltb, le-ltb}
 use Rattle.terms.specs.Terms.{validTerms, termsCode}
 use Rattle.terms.specs.declared.Terms.{Terms}
 use Rattle.ledger.specs.declared.Event.{Event}
 use Rattle.ledger.specs.Ledger.{opening, ledgerAfter}
 use Rattle.ledger.specs.Months.{ledgerSummary}
-use Rattle.ledger.proofs.Cases.{decide}
 use Rattle.account.specs.Head.{openOf}
 use Rattle.account.specs.declared.Opened.{Opened}
 use Rattle.account.specs.declared.Account.{Account}
@@ -24,7 +20,7 @@ use Rattle.months.proofs.Agrees.{summary-made}
 use Rattle.scanner.specs.Scanner.{Read, got}
 use Rattle.text.specs.Text.{readTerms}
 use Rattle.printing.specs.Printing.{Wrote}
-use Rattle.printing.proofs.Placed.{from-start}
+use Rattle.printing.proofs.Placed.{all-put}
 use Rattle.transcript.specs.Transcript.{termsLine}
 use Rattle.transcript.proofs.Ledgers.{wrong, right}
 use Rattle.statement.specs.Statement.{monthLines, eventsIn, byTerms, summaries, Written}
@@ -51,15 +47,9 @@ module _ (t : Terms) (o : Opened) (is : o ≡ openOf t) {b after : List ℕ} {r 
 
 -- ---- from the text
 
-pub nothing : (s before : List ℕ) → length before < 8192 → Written s before before 0
-nothing s before h = record { answer = simp (lt-ltb (length before) 8192 h); bytes = simp (lt-ltb (length before) 8192 h) }
-
 module _ (s before x after : List ℕ) (r : ℕ) (h : 8192 ≤ length before) (w : Wrote before 0 x after r) where
   by-lines : summaries s ≡ x → Written s before after r
-  by-lines e = record {
-    answer = simp (le-ltb (length before) 8192 h) (w .next ∙ zero-add (length x) ∙ ap length (sym e));
-    bytes = simp (le-ltb (length before) 8192 h) (w .buffer ∙ from-start before x ∙ ap (λ (y : List ℕ). y ++ drop (length y) before) (sym e));
-  }
+  by-lines e = all-put 8192 (summaries s) h w e
 
   pub too-long : 65536 < length s → x ≡ termsLine 15 → Written s before after r
   unfolding summaries
@@ -68,12 +58,3 @@ module _ (s before x after : List ℕ) (r : ℕ) (h : 8192 ≤ length before) (w
   pub by-terms : (q : Read Terms) → length s ≤ 65536 → readTerms s ≡ q → x ≡ byTerms q → Written s before after r
   unfolding summaries
   by-terms q l e b = by-lines (simp (le-ltb 65536 (length s) l, e) (sym b))
-
--- the answer counts bytes of the buffer
-pub within : (s before after : List ℕ) (r : ℕ) → Written s before after r → r ≤ length after
-within s before after r w = decide (ltb (length before) 8192)
-    (λ t. let none : r ≡ 0 = simp t at (w .answer) in omega arith)
-    (λ f.
-    let all : r ≡ length (summaries s) = simp f at (w .answer) in
-    let bytes : after ≡ summaries s ++ drop (length (summaries s)) before = simp f at (w .bytes) in
-    omega (arith, simp length-append at (ap length bytes)))

@@ -13,7 +13,7 @@ use Rattle.ledger.specs.Ledger.{opening, ledgerAfter}
 use Rattle.ledger.specs.Months.{ledgerSummary}
 use Rattle.scanner.specs.Scanner.{Read, got, broken}
 use Rattle.text.specs.Text.{readTerms, readEvent}
-use Rattle.printing.specs.Printing.{decimal}
+use Rattle.printing.specs.Printing.{decimal, Whole}
 use Rattle.transcript.specs.Transcript.{wCode, wFeed, termsLine}
 
 -- ---- the words, as bytes: `m=`, ` kept_count=`, ` kept_sum=`, ` reversed_count=`, ` reversed_sum=`, ` metered_wh=`, ` metered_cost=`,
@@ -117,8 +117,6 @@ byTerms broken = termsLine 15
 unfoldable pub summaries : List ℕ → List ℕ
 summaries s = cond (ltb 65536 (length s)) (termsLine 15) (byTerms (readTerms s))
 
--- What the call leaves: in a buffer of 8,192 bytes or more all the lines from its start, their length as the answer, and the bytes past them as
--- they were; in a shorter one nothing, and 0.
-pub record Written (s before after : List ℕ) (r : ℕ) : Type 0 where
-  pub answer : r ≡ cond (ltb (length before) 8192) 0 (length (summaries s))
-  pub bytes : after ≡ cond (ltb (length before) 8192) before (summaries s ++ drop (length (summaries s)) before)
+-- What the call leaves: all the lines in a buffer of 8,192 bytes or more.
+abbrev pub Written : List ℕ → List ℕ → List ℕ → ℕ → Type 0
+Written s = Whole 8192 (summaries s)

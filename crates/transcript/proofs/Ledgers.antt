@@ -34,7 +34,7 @@ use Rattle.transcript.proofs.Turn.{by-read, lines-got, lines-broken}
 
 module _ (t : Terms) (a : Account) (l : Ledger) (s : Stands t a l) where
   closing-is : headClosing (a .totals) ≡ closing t l
-  closing-is = rw (settled-reads t (a .totals) l (s .agree .sums) (s .agree .bounds) (s .sane), s .agree .sums .standing)
+  closing-is = rw (settled-reads t (a .totals) l (s .agree .sums) (s .agree .bounds) (s .invariant), s .agree .sums .standing)
 
   line-is : (n code value : ℕ) → headLine n code value (a .totals) ≡ line n code value (l .balance) (l .plan)
   line-is n code value = rw (balance-is t (a .totals) l (s .agree .sums) (s .agree .bounds), s .agree .sums .plan)

@@ -107,9 +107,6 @@ by-terms s q l e = simp (le-ltb 65536 (length s) l, e)
 
 -- ---- the whole
 
-pub nothing : (s before : List ℕ) → length before < 655360 → Written s before before 0
-nothing s before h = record { answer = simp (lt-ltb (length before) 655360 h); bytes = simp (lt-ltb (length before) 655360 h) }
-
 module _ (s before after : List ℕ) (p q : Progress) (begins : Begun s p) (m : Piece s p before after q) (roomy : 655360 ≤ length before) (sized : length after ≡ length before) where
   over-at-once : q .done ≡ true
   over-at-once = decide (q .done) (λ t. t) (λ f. let g = m .more (omega arith) f in absurd (omega (arith, begins .long (g .0), g .1)))
@@ -123,7 +120,7 @@ module _ (s before after : List ℕ) (p q : Progress) (begins : Begun s p) (m : 
   pub whole : Written s before after (q .length)
   whole = record {
     answer = simp (le-ltb (length before) 655360 roomy) long;
-    bytes = simp (le-ltb (length before) 655360 roomy)
+    buffer = simp (le-ltb (length before) 655360 roomy)
         (sym (take-append-drop (q .length) after) ∙ ap₂ _++_ (sym all) (m .others ∙ ap (λ (k : ℕ). drop k before) long));
   }
 

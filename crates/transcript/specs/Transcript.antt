@@ -14,7 +14,7 @@ use Rattle.ledger.specs.Ledger.{Outcome, opening, ledgerStep}
 use Rattle.ledger.specs.Sums.{settled, standing}
 use Rattle.scanner.specs.Scanner.{Read, got, broken}
 use Rattle.text.specs.Text.{readTerms, readEvent}
-use Rattle.printing.specs.Printing.{decimal, signed}
+use Rattle.printing.specs.Printing.{decimal, signed, Whole}
 
 -- ` code=`, ` value=`, ` balance=`, ` plan=`, ` estimates=`, and `n=`, `settled=`
 abbrev pub wN : List ℕ
@@ -78,8 +78,6 @@ byTerms broken = termsLine 15
 unfoldable pub transcript : List ℕ → List ℕ
 transcript s = cond (ltb 65536 (length s)) (termsLine 15) (byTerms (readTerms s))
 
--- What the call leaves: in a buffer of 655,360 bytes or more the whole transcript from its start, its length as the answer, and the bytes
--- past it as they were; in a shorter one nothing, and 0.
-pub record Written (s before after : List ℕ) (r : ℕ) : Type 0 where
-  pub answer : r ≡ cond (ltb (length before) 655360) 0 (length (transcript s))
-  pub bytes : after ≡ cond (ltb (length before) 655360) before (transcript s ++ drop (length (transcript s)) before)
+-- What the call leaves: the whole transcript in a buffer of 655,360 bytes or more.
+abbrev pub Written : List ℕ → List ℕ → List ℕ → ℕ → Type 0
+Written s = Whole 655360 (transcript s)

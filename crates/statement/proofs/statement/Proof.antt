@@ -5,7 +5,8 @@ use denote.Ref.{now}
 use Rattle.scanner.specs.Scanner.{broken}
 use Rattle.text.specs.Text.{TermsAt}
 use Rattle.text.specs.declared.TermsRead.the-variants.{Got}
-use Rattle.statement.proofs.Whole.{nothing, too-long, by-terms}
+use Rattle.printing.proofs.Placed.{none-put}
+use Rattle.statement.proofs.Whole.{too-long, by-terms}
 use borrow.Author.Needs.{needs}
 use Rattle.statement.proofs.statement.Statement.{statement}
 use Rattle.statement.proofs.statement.Tie as tie
@@ -15,7 +16,7 @@ read-as : (c : tie.After-read) → TermsAt (now (c .before .before .before .befo
 read-as c = rw (c .read .given .1) at (c .before .before .read-terms .ensures)
 
 returns : tie.Need-returns
-returns c = nothing _ _ (c .if1 .taken)
+returns c = none-put _ _ _ (c .if1 .taken)
 
 put-refusal-requires : tie.Need-put-refusal-requires
 put-refusal-requires c κs = search needs

@@ -1,7 +1,7 @@
 -- `summary::main` meets its contract: what the statement's call says it wrote lies within the buffer. Assumes nothing.
 use mathlib.Core.Path.{sym}
 use lib.Seq.{length-take-le}
-use Rattle.statement.proofs.Whole.{within}
+use Rattle.printing.proofs.Placed.{within}
 use borrow.Author.Needs.{needs}
 use Rattle.summary.proofs.main.Statement.{statement}
 use Rattle.summary.proofs.main.Tie as tie
@@ -25,10 +25,10 @@ statement-requires : tie.Need-statement-requires
 statement-requires c κs = search needs
 
 array-share-prefix-out : tie.Need-array-share-prefix-out
-array-share-prefix-out c = within _ _ _ _ (c .before .statement .ensures)
+array-share-prefix-out c = within _ _ _ _ _ (c .before .statement .ensures)
 
 slice-aggregate-write-all : tie.Need-slice-aggregate-write-all
-slice-aggregate-write-all c = sym (length-take-le _ _ (within _ _ _ _ (c .before .before .statement .ensures)))
+slice-aggregate-write-all c = sym (length-take-le _ _ (within _ _ _ _ _ (c .before .before .statement .ensures)))
 
 write-all-requires : tie.Need-write-all-requires
 write-all-requires c κs = search needs

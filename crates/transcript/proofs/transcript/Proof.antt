@@ -1,11 +1,12 @@
 -- `transcript::transcript` meets its contract. Assumes nothing.
-use Rattle.transcript.proofs.Whole.{nothing, whole}
+use Rattle.printing.proofs.Placed.{none-put}
+use Rattle.transcript.proofs.Whole.{whole}
 use borrow.Author.Needs.{needs}
 use Rattle.transcript.proofs.transcript.Statement.{statement}
 use Rattle.transcript.proofs.transcript.Tie as tie
 
 returns : tie.Need-returns
-returns c = nothing _ _ (c .if1 .taken)
+returns c = none-put _ _ _ (c .if1 .taken)
 
 begin-requires : tie.Need-begin-requires
 begin-requires c κs = search needs

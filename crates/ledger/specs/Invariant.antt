@@ -1,0 +1,31 @@
+-- What holds of the ledger from its opening on, whatever events it is fed.
+use Prim.Native.Nat.{ℕ, _+_, _≤_, _<_}
+use mathlib.Core.Path.{_≡_}
+use mathlib.Core.Bool.{true, _||_}
+use mathlib.Core.List.{[], _∷_}
+use lib.IntN.{pos, _-ℤ_}
+use Rattle.terms.specs.declared.Terms.{Terms}
+use Rattle.ledger.specs.Event.{isEstimate, isRead}
+use Rattle.ledger.specs.Entries.{Entry, Entries, count, lastDay, payments, payment, reversed, estimateOn}
+use Rattle.ledger.specs.Sums.{kept, credits, charges, reads, standing}
+use Rattle.ledger.specs.Rules.{Ledger}
+
+-- what holds of every entry
+abbrev pub All : (Entry → Type 0) → Entries → Type 0
+All P [] = Unit {0}
+All P (x ∷ l) = P x × All P l
+
+-- an estimate or a read is of a day before d
+abbrev pub UsedBefore : ℕ → Entry → Type 0
+UsedBefore d x = (isEstimate (x .event) || isRead (x .event)) ≡ true → x .event .usage < d
+
+pub record Invariant (t : Terms) (l : Ledger) : Type 0 where
+  -- B is what the sums over L and the unpaid plan make it
+  pub identity : l .balance
+      ≡ pos (kept (l .list) + credits (l .list) + l .plan) -ℤ pos (charges (l .list) + reads t (l .list) + standing t (l .list))
+  pub share : t .share ≤ 100
+  -- only a payment that was made is reversed
+  pub numbers : (n : ℕ) → reversed n (l .list) ≡ true → n < payments (l .list)
+  pub parts : (n : ℕ) → payment n (l .list) .part ≤ payment n (l .list) .event .amount
+  pub once : (u : ℕ) → count (estimateOn u) (l .list) ≤ 1
+  pub past : All (UsedBefore (lastDay (l .list))) (l .list)
