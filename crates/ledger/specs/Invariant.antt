@@ -23,9 +23,13 @@ pub record Invariant (t : Terms) (l : Ledger) : Type 0 where
   -- B is what the sums over L and the unpaid plan make it
   pub identity : l .balance
       ≡ pos (kept (l .list) + credits (l .list) + l .plan) -ℤ pos (charges (l .list) + reads t (l .list) + standing t (l .list))
+  -- of the terms: enough for `parts`; their limit is 50
   pub share : t .share ≤ 100
   -- only a payment that was made is reversed
   pub numbers : (n : ℕ) → reversed n (l .list) ≡ true → n < payments (l .list)
+  -- what of a payment went to the plan is at most its amount
   pub parts : (n : ℕ) → payment n (l .list) .part ≤ payment n (l .list) .event .amount
+  -- a usage day is estimated once at most
   pub once : (u : ℕ) → count (estimateOn u) (l .list) ≤ 1
+  -- "u ≥ x" is refused: usage days are before the last day
   pub past : All (UsedBefore (lastDay (l .list))) (l .list)

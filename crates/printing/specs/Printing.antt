@@ -7,12 +7,12 @@ use lib.ListN.{length, take, drop}
 use lib.Dec.{ltb, leb}
 use lib.IntN.{ℤ, pos, negsuc}
 
--- the last k digits or fewer, in base ten, with no leading zero
+-- in base ten, all digits, or the last k if there are more
 unfoldable pub digits : ℕ → ℕ → List ℕ
 digits zero n = []
 digits (suc k) n = cond (ltb n 10) ((48 + n) ∷ []) (digits k (n / 10) ++ ((48 + n % 10) ∷ []))
 
--- a number in base ten, zero being `0`: n has fewer than n + 1 digits, or is 0
+-- a number in base ten, without leading zero, zero being `0`: it has at most n + 1 digits
 unfoldable pub decimal : ℕ → List ℕ
 decimal n = digits (suc n) n
 
@@ -21,13 +21,15 @@ unfoldable pub signed : ℤ → List ℕ
 signed (pos n) = decimal n
 signed (negsuc n) = 45 ∷ decimal (suc n)
 
--- The buffer with these bytes from place `at` on, and the place after them. Where they do not fit, nothing is put.
+-- whether bytes from place `at` on lie within the buffer
 unfoldable pub fits : List ℕ → ℕ → List ℕ → Bool
 fits buffer at bytes = leb (at + length bytes) (length buffer)
 
+-- the buffer with them there
 unfoldable pub over : List ℕ → ℕ → List ℕ → List ℕ
 over buffer at bytes = take at buffer ++ (bytes ++ drop (at + length bytes) buffer)
 
+-- The buffer, and the place after the bytes. Where they do not fit, nothing is put.
 unfoldable pub put : List ℕ → ℕ → List ℕ → List ℕ
 put buffer at bytes = cond (fits buffer at bytes) (over buffer at bytes) buffer
 

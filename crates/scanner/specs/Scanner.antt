@@ -118,7 +118,7 @@ part s from end = take (end - from) (drop from s)
 
 -- the value of the line at a place: where it starts and ends, and what follows the line
 abbrev pub ValueAt : List ℕ → List ℕ → ℕ → ValueRead → Type 0
-ValueAt key s at (value-read.Got from end next) = (readValue key (drop at s) ≡ got (part s from end) (drop next s)) × (from ≤ end) × (end ≤ length s) × (next ≤ length s)
+ValueAt key s at (value-read.Got from end next) = (readValue key (drop at s) ≡ got (part s from end) (drop next s)) × (from ≤ end) × (end ≤ length s) × (next ≤ length s) × (next ≡ end + 1)
 ValueAt key s at value-read.Broken = readValue key (drop at s) ≡ broken
 
 abbrev pub NumberAt : List ℕ → List ℕ → ℕ → NumberRead → Type 0

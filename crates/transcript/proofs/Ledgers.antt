@@ -1,12 +1,12 @@
 -- The lines by the head's step and the reading calls are the ledger's, for an account that stands for the ledger. Assumes nothing.
-use Prim.Native.Nat.{ℕ, zero, suc, _+_, _-_, _≤_}
+use Prim.Native.Nat.{ℕ, zero, suc, _+_, _-_, _≤_, _<_}
 use mathlib.Core.Path.{_≡_, refl, sym, ap, ap₂, _∙_}
 use mathlib.Core.Bool.{true, false}
 use mathlib.Core.List.{List, [], _∷_, _++_}
 use native.Mathlib.Omega.{arith}
 use lib.ListN.{length, drop, length-drop}
 use lib.Dec.{eqb}
-use borrow.Author.Tests.{eqb-true, eqb-false}
+use borrow.Author.Tests.{lt-ltb, le-ltb, eqb-true, eqb-false}
 use Rattle.terms.specs.Terms.{validTerms, termsCode}
 use Rattle.terms.specs.declared.Terms.{Terms}
 use Rattle.ledger.specs.declared.Event.{Event}
@@ -24,7 +24,7 @@ use Rattle.readings.proofs.After.{balance-is, settled-reads}
 use Rattle.scanner.specs.Scanner.{Read, got, broken}
 use Rattle.text.specs.Text.{readTerms, readEvent}
 use Rattle.transcript.specs.Transcript.{line, closing, eventLines, termsLine, byTerms, transcript}
-use Rattle.transcript.specs.Pieces.{Begun}
+use Rattle.transcript.specs.Pieces.{noTerms, startOf, begunOf, Begun}
 use Rattle.transcript.specs.declared.Progress.{Progress}
 use Rattle.transcript.proofs.Whole.{begun, events-left, refusal-left, by-terms}
 use Rattle.transcript.specs.Work.{headLine, headClosing, headLines}
@@ -99,19 +99,26 @@ module _ (t : Terms) (o : Opened) (is : o ≡ openOf t) where
       simp (v, length-drop) (rw (ap (λ (p : Opened). p .account) is) (lines-are t v (suc (length text - start)) (fresh t) opening 1 (drop start text) (refinement-holds t v .opens)))
 
   -- before the first piece
-  pub opened-begun : (text : List ℕ) (next : ℕ) → length text ≤ 65536 → readTerms text ≡ got t (drop next text)
+  pub opened-begun : (text : List ℕ) (next : ℕ) → length text ≤ 65536 → next ≤ length text → readTerms text ≡ got t (drop next text)
       → Begun text (record { account = o .account; at = next; count = 0; code = o .code; length = 0; done = false })
-  opened-begun text next l e =
-      let p : Progress = record { account = o .account; at = next; count = 0; code = o .code; length = 0; done = false } in
-      begun text p
+  opened-begun text next l w e =
+      let start : Opened → ℕ → Progress = λ p at. record { account = p .account; at = at; count = 0; code = p .code; length = 0; done = false } in
+      let there : next ≡ length text - length (drop next text) = rw (length-drop next text) (omega arith) in
+      begun text (start o next)
+      (simp (le-ltb 65536 (length text) l, e) (ap₂ start is there))
       (decide (eqb (o .code) 0)
-      (λ y. let z = eqb-true (o .code) 0 y in events-left text p refl z (omega arith) ∙ opened text next z)
-      (λ n. let z = eqb-false (o .code) 0 n in refusal-left text p refl (omega arith) z ∙ refused (drop next text) z)
+      (λ y. let z = eqb-true (o .code) 0 y in events-left text (start o next) refl z (omega arith) ∙ opened text next z)
+      (λ n. let z = eqb-false (o .code) 0 n in refusal-left text (start o next) refl (omega arith) z ∙ refused (drop next text) z)
       ∙ sym (by-terms text (got t (drop next text)) l e))
-      refl refl (λ z. l)
+      (λ z. l)
 
 -- terms that break their form
-pub malformed-begun : (text : List ℕ) (p : Progress) → (p .code ≡ 15) × (p .done ≡ false) × (p .count ≡ 0) × (p .length ≡ 0) → transcript text ≡ termsLine 15 → Begun text p
-malformed-begun text p m e =
-    let n : p .code ≡ 0 → ⊥ = λ z. omega (arith, z, m .0) in
-    begun text p (refusal-left text p (m .1) (omega (arith, m .2)) n ∙ ap termsLine (m .0) ∙ sym e) (m .3) (m .1) (λ z. absurd (n z))
+pub begun-long : (text : List ℕ) → 65536 < length text → begunOf text ≡ startOf noTerms 0 15
+begun-long text l = simp (lt-ltb 65536 (length text) l)
+
+pub begun-broken : (text : List ℕ) → length text ≤ 65536 → readTerms text ≡ broken → begunOf text ≡ startOf noTerms 0 15
+begun-broken text l e = simp (le-ltb 65536 (length text) l, e)
+
+pub malformed-begun : (text : List ℕ) (p : Progress) → p ≡ startOf noTerms 0 15 → begunOf text ≡ startOf noTerms 0 15 → transcript text ≡ termsLine 15 → Begun text p
+malformed-begun text p m b e =
+    rw m (begun text (startOf noTerms 0 15) (sym b) (refusal-left text (startOf noTerms 0 15) refl (omega arith) (λ z. omega (arith, z)) ∙ sym e) (λ z. absurd (omega (arith, z))))

@@ -1,8 +1,9 @@
 -- A piece at the start of the buffer, all pieces together, and the whole transcript. Assumes nothing.
 use Prim.Native.Nat.{ℕ, suc, _+_, _*_, _-_, _≤_, _<_}
 use mathlib.Core.Path.{_≡_, refl, sym, ap, ap₂, _∙_}
-use mathlib.Core.Bool.{true, false, cond, true≢false}
+use mathlib.Core.Bool.{Bool, true, false, cond, true≢false}
 use mathlib.Core.List.{List, [], _++_, append-nil}
+use native.Mathlib.Nat.{zero-add}
 use native.Mathlib.Omega.{arith}
 use lib.ListN.{length, take, drop, take-append-drop}
 use lib.Seq.{length-take-le, take-at, drop-at}
@@ -18,7 +19,7 @@ use Rattle.ledger.proofs.Cases.{decide}
 use Rattle.readings.specs.Readings.{balanceOf}
 use Rattle.transcript.specs.Transcript.{transcript, termsLine, byTerms, Written}
 use Rattle.transcript.specs.Work.{headLine}
-use Rattle.transcript.specs.Pieces.{linesFrom, goes, rest, Piece, Printed, last, then, Begun}
+use Rattle.transcript.specs.Pieces.{linesFrom, unprinted, rest, stays, eventsPiece, pieceOf, begunOf, Piece, Printed, last, then, Begun}
 use Rattle.transcript.specs.declared.Progress.{Progress}
 
 -- ---- what is still to be printed
@@ -31,7 +32,7 @@ pub refusal-left : (s : List ℕ) (p : Progress) → p .done ≡ false → p .co
 refusal-left s p d h n = simp (d, le-leb (p .count) (p .at) h, ne-eqb (p .code) 0 n)
 
 -- more events than bytes
-pub none-left : (s : List ℕ) (p : Progress) → p .done ≡ false → p .at < p .count → rest s p ≡ []
+none-left : (s : List ℕ) (p : Progress) → p .done ≡ false → p .at < p .count → rest s p ≡ []
 none-left s p d h = simp (d, lt-leb (p .count) (p .at) h)
 
 -- ---- one piece
@@ -58,35 +59,54 @@ pub nothing-written : (b : List ℕ) → Wrote b 0 [] b 0
 unfolding over
 nothing-written b = record { buffer = refl; next = refl; room = omega arith }
 
-pub piece-of : (s : List ℕ) (p q : Progress) {b x after : List ℕ} → Wrote b 0 x after (q .length) → 174 ≤ length b → rest s p ≡ x ++ rest s q
+pub piece-of : (s : List ℕ) (p q : Progress) {b x after : List ℕ} → q ≡ pieceOf s p (length b) → Wrote b 0 x after (q .length) → rest s p ≡ x ++ rest s q
     → (q .done ≡ false → (p .code ≡ 0) × (p .at < q .at) × (q .at ≤ length s) × (length b < q .length + 174) × (q .length ≤ 9 * q .at))
     → Piece s p b after q
-piece-of s p q {b} {x} {after} w roomy e m = record {
+piece-of s p q {b} {x} {after} is w e m = record {
+  progress = is;
   lines = e ∙ ap (λ (l : List ℕ). l ++ rest s q) (sym (front w));
   others = past w;
   inside = omega (arith, w .room, w .next);
-  short = λ h. absurd (omega arith);
   more = λ h. m;
 }
 
--- a buffer that is too short, or nothing left
-pub no-piece : (s b : List ℕ) (p q : Progress) → q .length ≡ 0 → rest s p ≡ rest s q → (174 ≤ length b → q .done ≡ true) → Piece s p b b q
-no-piece s b p q z e d = record {
-  lines = rw z e;
+-- no piece: the buffer is too short, the last piece was printed, or there are more events than bytes
+no-piece : (s b : List ℕ) (p : Progress) (done : Bool) → stays p 0 done ≡ pieceOf s p (length b) → rest s p ≡ rest s (stays p 0 done) → (174 ≤ length b → done ≡ true) → Piece s p b b (stays p 0 done)
+no-piece s b p done is e d = record {
+  progress = is;
+  lines = e;
   others = refl;
-  inside = omega (arith, z);
-  short = λ h. z;
+  inside = omega arith;
   more = λ h f. absurd (true≢false (sym (d h) ∙ f));
 }
 
+module _ (s b : List ℕ) (p : Progress) where
+  pub too-short : length b < 174 → Piece s p b b (stays p 0 (p .done))
+  too-short h = no-piece s b p (p .done) (simp (lt-ltb (length b) 174 h)) refl (λ g. absurd (omega arith))
+
+  module _ (roomy : 174 ≤ length b) where
+    pub ended : p .done ≡ true → Piece s p b b (stays p 0 (p .done))
+    ended d = no-piece s b p (p .done) (simp (le-ltb (length b) 174 roomy, d)) refl (λ g. d)
+
+    pub too-many : p .done ≡ false → p .at < p .count → Piece s p b b (stays p 0 true)
+    too-many d h = no-piece s b p true (simp (le-ltb (length b) 174 roomy, d, lt-ltb (p .at) (p .count) h)) (none-left s p d h) (λ g. refl)
+
 -- the line of terms that are malformed or refused
-pub refused : (s : List ℕ) (p q : Progress) {b after : List ℕ} → p .done ≡ false → p .count ≤ p .at → (p .code ≡ 0 → ⊥) → 174 ≤ length b → q .done ≡ true
-    → Wrote b 0 (headLine 0 (p .code) 0 no-totals) after (q .length) → Piece s p b after q
+pub refused : (s : List ℕ) (p : Progress) {b after : List ℕ} {r : ℕ} → p .done ≡ false → p .count ≤ p .at → (p .code ≡ 0 → ⊥) → 174 ≤ length b
+    → Wrote b 0 (headLine 0 (p .code) 0 no-totals) after r → Piece s p b after (stays p r true)
 unfolding balanceOf
-refused s p q d h n roomy f w =
-    piece-of s p q w roomy
-    (refusal-left s p d h n ∙ sym (append-nil (termsLine (p .code))) ∙ ap (λ (x : List ℕ). termsLine (p .code) ++ x) (sym (simp f)))
-    (λ g. absurd (true≢false (sym f ∙ g)))
+refused s p {b} {after} {r} d h n roomy w =
+    piece-of s p (stays p r true)
+    (simp (le-ltb (length b) 174 roomy, d, le-ltb (p .at) (p .count) h, ne-eqb (p .code) 0 n) (ap (λ (k : ℕ). stays p k true) (w .next ∙ zero-add (length (termsLine (p .code))))))
+    w
+    (refusal-left s p d h n ∙ sym (append-nil (termsLine (p .code))))
+    (λ g. absurd (true≢false g))
+
+-- ---- how far a piece goes, by where it stands
+
+pub by-events : (s : List ℕ) (p : Progress) (room : ℕ) → p .done ≡ false → p .code ≡ 0 → p .count ≤ p .at → 174 ≤ room
+    → pieceOf s p room ≡ eventsPiece (suc (length s - p .at)) room s (p .account) (p .at) (p .count) 0
+by-events s p room d c h roomy = simp (le-ltb room 174 roomy, d, le-ltb (p .at) (p .count) h, c)
 
 -- ---- all pieces
 
@@ -94,8 +114,8 @@ printed : (s : List ℕ) (p : Progress) (w : List ℕ) → Printed s p w → w �
 printed s _ _ (last p h) = sym (simp h)
 printed s _ _ (then p q before after v m more) = ap (λ (x : List ℕ). take (q .length) after ++ x) (printed s q v more) ∙ sym (m .lines)
 
-pub begun : (s : List ℕ) (p : Progress) → rest s p ≡ transcript s → p .length ≡ 0 → p .done ≡ false → (p .code ≡ 0 → length s ≤ 65536) → Begun s p
-begun s p e z d l = record { all = e; pieces = λ w x. printed s p w x ∙ e; none = z; begun = d; long = l }
+pub begun : (s : List ℕ) (p : Progress) → p ≡ begunOf s → rest s p ≡ transcript s → (p .code ≡ 0 → length s ≤ 65536) → Begun s p
+begun s p is e l = record { progress = is; all = e; pieces = λ w x. printed s p w x ∙ e; bounded = l }
 
 pub too-long : (s : List ℕ) → 65536 < length s → transcript s ≡ termsLine 15
 unfolding transcript
@@ -109,7 +129,7 @@ by-terms s q l e = simp (le-ltb 65536 (length s) l, e)
 
 module _ (s before after : List ℕ) (p q : Progress) (begins : Begun s p) (m : Piece s p before after q) (roomy : 655360 ≤ length before) (sized : length after ≡ length before) where
   over-at-once : q .done ≡ true
-  over-at-once = decide (q .done) (λ t. t) (λ f. let g = m .more (omega arith) f in absurd (omega (arith, begins .long (g .0), g .1)))
+  over-at-once = decide (q .done) (λ t. t) (λ f. let g = m .more (omega arith) f in absurd (omega (arith, begins .bounded (g .0), g .1)))
 
   all : transcript s ≡ take (q .length) after
   all = sym (begins .all) ∙ m .lines ∙ ap (λ (x : List ℕ). take (q .length) after ++ x) (simp over-at-once) ∙ append-nil (take (q .length) after)

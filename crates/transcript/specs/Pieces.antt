@@ -1,47 +1,102 @@
--- The transcript in pieces: what is still to be printed, and what one piece leaves of it.
-use Prim.Native.Nat.{ℕ, suc, _+_, _*_, _-_, _≤_, _<_}
+-- The transcript in pieces: what is still to be printed, how far a piece goes, and what a call leaves.
+use Prim.Native.Nat.{ℕ, zero, suc, _+_, _*_, _-_, _≤_, _<_}
 use mathlib.Core.Path.{_≡_}
-use mathlib.Core.Bool.{Bool, false, cond, not, _&&_}
+use mathlib.Core.Bool.{Bool, true, false, cond, not, _&&_}
 use mathlib.Core.List.{List, [], _++_}
 use lib.ListN.{length, take, drop}
-use lib.Dec.{eqb, leb}
+use lib.Dec.{eqb, leb, ltb}
+use Rattle.terms.specs.declared.Terms.{Terms}
+use Rattle.account.specs.Head.{stepOf, openOf}
 use Rattle.account.specs.declared.Account.{Account}
+use Rattle.account.specs.declared.Opened.{Opened}
+use Rattle.account.specs.declared.Posted.{Posted}
+use Rattle.scanner.specs.Scanner.{got, broken}
+use Rattle.text.specs.Text.{readTerms, readEvent}
 use Rattle.transcript.specs.Transcript.{termsLine, transcript}
-use Rattle.transcript.specs.Work.{headLines}
+use Rattle.transcript.specs.Work.{headLine, headClosing, headLines}
 use Rattle.transcript.specs.declared.Progress.{Progress}
+
+-- ---- what is still to be printed
 
 -- the lines of the events from a place of the text on, and the last line
 abbrev pub linesFrom : List ℕ → Account → ℕ → ℕ → List ℕ
 linesFrom s a at count = headLines (suc (length s - at)) a (count + 1) (drop at s)
 
--- Whether there is more to print. More events than bytes were read by no call of ours: nothing is printed for them.
-abbrev pub goes : Progress → Bool
-goes p = not (p .done) && leb (p .count) (p .at)
+-- Whether there is more to print. No call leaves more events than bytes; for such a `Progress` nothing is printed.
+abbrev pub unprinted : Progress → Bool
+unprinted p = not (p .done) && leb (p .count) (p .at)
 
--- what is still to be printed
 abbrev pub rest : List ℕ → Progress → List ℕ
-rest s p = cond (goes p) (cond (eqb (p .code) 0) (linesFrom s (p .account) (p .at) (p .count)) (termsLine (p .code))) []
+rest s p = cond (unprinted p) (cond (eqb (p .code) 0) (linesFrom s (p .account) (p .at) (p .count)) (termsLine (p .code))) []
 
--- What a call leaves: a piece of what was still to be printed, at the start of the buffer.
+-- ---- how far a piece goes
+
+-- the same place, with so many bytes put
+abbrev pub stays : Progress → ℕ → Bool → Progress
+stays p n done = record { account = p .account; at = p .at; count = p .count; code = p .code; length = n; done = done }
+
+abbrev pub reached : Account → ℕ → ℕ → ℕ → Bool → Progress
+reached a at count n done = record { account = a; at = at; count = count; code = 0; length = n; done = done }
+
+-- From a place of the text on, in a buffer of `room` bytes, n of them used: lines of events while 174 bytes are free, which hold an event's
+-- line (114 at most) and the last line (60 at most). k is more than the number of bytes from there on, so `zero` is not reached.
+unfoldable pub eventsPiece : ℕ → ℕ → List ℕ → Account → ℕ → ℕ → ℕ → Progress
+eventsPiece zero room s a at count n = reached a at count n true
+eventsPiece (suc k) room s a at count n =
+    cond (leb (length s) at) (reached a at count (n + length (headClosing (a .totals))) true)
+    (cond (ltb (room - n) 174) (reached a at count n false)
+    (elim (readEvent (drop at s)) [
+      | got e r ↦ eventsPiece k room s (stepOf a e .account) (length s - length r) (count + 1)
+          (n + length (headLine (count + 1) (stepOf a e .code) (stepOf a e .value) (stepOf a e .account .totals)))
+      | broken ↦ reached a at count (n + length (headLine (count + 1) 15 0 (a .totals)) + length (headClosing (a .totals))) true
+    ]))
+
+-- after the next piece, in a buffer of `room` bytes
+abbrev pub pieceOf : List ℕ → Progress → ℕ → Progress
+pieceOf s p room =
+    cond (ltb room 174) (stays p 0 (p .done))
+    (cond (p .done) (stays p 0 (p .done))
+    (cond (ltb (p .at) (p .count)) (stays p 0 true)
+    (cond (eqb (p .code) 0) (eventsPiece (suc (length s - p .at)) room s (p .account) (p .at) (p .count) 0)
+    (stays p (length (termsLine (p .code))) true))))
+
+-- What a call leaves. The first two clauses say it all: the progress after it, and the bytes, which are the next of those still to be printed.
 pub record Piece (s : List ℕ) (p : Progress) (before after : List ℕ) (q : Progress) : Type 0 where
-  -- the piece, and then what is still to be printed
+  pub progress : q ≡ pieceOf s p (length before)
+  -- the piece, and what is still to be printed after it, are what was still to be printed; the bytes past the piece are as they were
   pub lines : rest s p ≡ take (q .length) after ++ rest s q
   pub others : drop (q .length) after ≡ drop (q .length) before
   pub inside : q .length ≤ length before
-  pub short : length before < 174 → q .length ≡ 0
-  -- In a buffer that isn't short a piece is the last one, or has lines of events and fills the buffer.
+  -- In a buffer of 174 bytes or more, a piece that is not the last one reads on within the text, leaves less than 174 bytes free, and has at
+  -- most 9 bytes for each byte of the text that is read: so 655,360 bytes hold any transcript.
   pub more : 174 ≤ length before → q .done ≡ false
       → (p .code ≡ 0) × (p .at < q .at) × (q .at ≤ length s) × (length before < q .length + 174) × (q .length ≤ 9 * q .at)
 
--- The pieces printed one after the other, until there is no more to print.
+-- ---- from the first piece to the last
+
+-- no terms: what a text with malformed ones opens
+abbrev pub noTerms : Terms
+noTerms = record { opened = record { year = 0; month = 0; day = 0 }; price = 0; connect = 0; cutoff = 0; share = 0 }
+
+abbrev pub startOf : Terms → ℕ → ℕ → Progress
+startOf t at code = record { account = openOf t .account; at = at; count = 0; code = code; length = 0; done = false }
+
+-- before the first piece
+abbrev pub begunOf : List ℕ → Progress
+begunOf s = cond (ltb 65536 (length s)) (startOf noTerms 0 15)
+    (elim (readTerms s) [
+      | got t r ↦ startOf t (length s - length r) (openOf t .code)
+      | broken ↦ startOf noTerms 0 15
+    ])
+
+-- The pieces printed one after the other, in whatever buffers, until there is no more to print.
 pub data Printed (s : List ℕ) : Progress → List ℕ → Type 0 where
-  last : (p : Progress) → goes p ≡ false → Printed s p []
+  last : (p : Progress) → unprinted p ≡ false → Printed s p []
   then : (p q : Progress) (before after w : List ℕ) → Piece s p before after q → Printed s q w → Printed s p (take (q .length) after ++ w)
 
--- Before the first piece: the transcript is to be printed, and nothing is yet. Whatever the pieces are, together they are the transcript.
+-- What `begin` answers, and what follows: the whole transcript is still to be printed, and whatever the pieces are, together they are it.
 pub record Begun (s : List ℕ) (p : Progress) : Type 0 where
+  pub progress : p ≡ begunOf s
   pub all : rest s p ≡ transcript s
   pub pieces : (w : List ℕ) → Printed s p w → w ≡ transcript s
-  pub none : p .length ≡ 0
-  pub begun : p .done ≡ false
-  pub long : p .code ≡ 0 → length s ≤ 65536
+  pub bounded : p .code ≡ 0 → length s ≤ 65536

@@ -54,7 +54,8 @@ lastLine sum cost = wSettled ++ (signed sum ++ (wEstimates ++ (decimal cost ++ w
 abbrev pub closing : Terms → Ledger → List ℕ
 closing t l = lastLine (settled t (l .list)) (standing t (l .list))
 
--- The lines of the events that stand in the bytes, the first of them with ordinal n, and the last line; k is the number of bytes and one more.
+-- The lines of the events that stand in the bytes, the first of them with ordinal n, and the last line; k is more than the number of bytes, so
+-- `zero` is not reached.
 -- "Code 15 prints its line and no more is read, then the last line."
 unfoldable pub eventLines : ℕ → Terms → Ledger → ℕ → List ℕ → List ℕ
 eventLines zero t l n s = []
@@ -70,7 +71,7 @@ eventLines (suc k) t l n (b ∷ s) =
 abbrev pub termsLine : ℕ → List ℕ
 termsLine code = line 0 code 0 (pos 0) 0
 
--- "15 in the terms precedes 1, and a text too long has malformed terms."
+-- "15 precedes the event it stands in; in the terms it precedes 1, and a text too long has malformed terms."
 abbrev pub byTerms : Read Terms → List ℕ
 byTerms (got t r) = cond (validTerms t) (eventLines (suc (length r)) t opening 1 r) (termsLine 1)
 byTerms broken = termsLine 15
@@ -78,6 +79,6 @@ byTerms broken = termsLine 15
 unfoldable pub transcript : List ℕ → List ℕ
 transcript s = cond (ltb 65536 (length s)) (termsLine 15) (byTerms (readTerms s))
 
--- What the call leaves: the whole transcript in a buffer of 655,360 bytes or more.
+-- What `transcript::transcript` leaves: the whole transcript in a buffer of 655,360 bytes or more.
 abbrev pub Written : List ℕ → List ℕ → List ℕ → ℕ → Type 0
 Written s = Whole 655360 (transcript s)

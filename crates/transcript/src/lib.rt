@@ -1,6 +1,6 @@
-// What `prepay` prints for a text: whole into a lent buffer, or in pieces through a small one.
-// It uses the event text, the account, the moves, the readings and the printing. Its promises cite specs/Transcript.antt and
-// specs/Pieces.antt, and inside the crate specs/Work.antt.
+// What `prepay` prints for a text: whole into a lent buffer, or in pieces through one of any size.
+// It uses the event text, the terms, the account, the moves, the marks, the readings and the printing. Its promises cite
+// specs/Transcript.antt and specs/Pieces.antt, which stands on specs/Work.antt.
 use account::Account;
 use calendar::Date;
 use moves::Totals;
@@ -17,7 +17,7 @@ ghost use lib.ListN.{length};
 ghost use Rattle.printing.specs.Printing.{Wrote};
 ghost use Rattle.transcript.specs.Transcript.{Written};
 ghost use Rattle.transcript.specs.Work.{headLine, headClosing};
-ghost use Rattle.transcript.specs.Pieces.{Begun, Piece};
+ghost use Rattle.transcript.specs.Pieces.{noTerms, startOf, Begun, Piece};
 
 // How far a text is printed.
 pub struct Progress {
@@ -138,7 +138,7 @@ fn put_events(text: &[u8], p: Progress, out: &mut [u8]) -> Progress
 
 // Terms that break their form, before their line is printed.
 fn malformed() -> Progress
-    ensures { λ r. ⌜ (r .code ≡ 15) × (r .done ≡ false) × (r .count ≡ 0) × (r .length ≡ 0) ⌝ }
+    ensures { λ r. ⌜ r ≡ startOf noTerms 0 15 ⌝ }
 {
     let terms = Terms {
         opened: Date {

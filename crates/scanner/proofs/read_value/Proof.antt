@@ -47,7 +47,7 @@ add-next c = omega (arith, found (c .before), c .before .before .before .before 
 returns-3 : tie.Need-returns-3
 returns-3 c =
     let g = found (c .before) in
-    (started _ _ _ (start (c .before .before .before .before .before) .0) ∙ g .0, g .1, omega (arith, g), omega (arith, g))
+    (started _ _ _ (start (c .before .before .before .before .before) .0) ∙ g .0, g .1, omega (arith, g), omega (arith, g), omega arith)
 
 pub read-value-spec : {M : Type 1} → statement M
 read-value-spec =

@@ -1,20 +1,17 @@
 -- `transcript::piece` meets its contract. Assumes nothing.
-use mathlib.Core.Path.{refl}
-use native.Mathlib.Omega.{arith}
-use denote.Ref.{now}
-use Rattle.transcript.proofs.Whole.{none-left, no-piece, refused}
+use Rattle.transcript.proofs.Whole.{too-short, ended, too-many, refused}
 use borrow.Author.Needs.{needs}
 use Rattle.transcript.proofs.piece.Statement.{statement}
 use Rattle.transcript.proofs.piece.Tie as tie
 
 returns : tie.Need-returns
-returns c = no-piece _ _ _ _ refl refl (λ h. absurd (omega (arith, c .if1 .taken)))
+returns c = too-short _ _ _ (c .if1 .taken)
 
 returns-2 : tie.Need-returns-2
-returns-2 c = no-piece _ _ _ _ refl refl (λ h. c .if2 .taken)
+returns-2 c = ended _ _ _ (c .before .if1 .left) (c .if2 .taken)
 
 returns-3 : tie.Need-returns-3
-returns-3 c = no-piece _ _ _ _ refl (none-left (now (c .before .before .before .before .before .before .args .text)) (c .before .before .before .before .before .before .args .p) (c .before .before .if2 .left) (c .if3 .taken)) (λ h. refl)
+returns-3 c = too-many _ _ _ (c .before .before .before .if1 .left) (c .before .before .if2 .left) (c .if3 .taken)
 
 put-events-requires : tie.Need-put-events-requires
 put-events-requires c κs = (c .before .before .before .before .before .if2 .left, c .before .if4 .taken, c .before .before .before .if3 .left, c .before .before .before .before .before .before .if1 .left)
@@ -32,7 +29,7 @@ same-length-2 : tie.Need-same-length-2
 same-length-2 c = search needs
 
 returns-5 : tie.Need-returns-5
-returns-5 c = refused _ _ _ (c .before .before .before .before .before .before .before .before .if2 .left) (c .before .before .before .before .before .before .if3 .left) (c .before .before .before .before .if4 .left) (c .before .before .before .before .before .before .before .before .before .if1 .left) refl (c .before .before .put-event .ensures .0)
+returns-5 c = refused _ _ (c .before .before .before .before .before .before .before .before .if2 .left) (c .before .before .before .before .before .before .if3 .left) (c .before .before .before .before .if4 .left) (c .before .before .before .before .before .before .before .before .before .if1 .left) (c .before .before .put-event .ensures .0)
 
 pub piece-spec : {M : Type 1} → statement M
 piece-spec =

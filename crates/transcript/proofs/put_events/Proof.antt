@@ -37,7 +37,7 @@ same-length : tie.Need-same-length Inv-loop μ-loop
 same-length c = sized _ _ _ _ _ _ _ _ _ _ (c .before .before .loop .inv)
 
 returns : tie.Need-returns Inv-loop μ-loop
-returns c = pauses _ _ _ _ _ _ _ _ (c .before .before .loop .inv) (c .before .before .before .before .before .before .pre .0) (c .before .before .before .before .before .before .pre .1) (c .before .before .before .before .before .before .pre .2) (c .before .before .before .before .before .before .pre .3) (c .if1 .taken)
+returns c = pauses _ _ _ _ _ _ _ _ (c .before .before .loop .inv) (c .before .before .before .before .before .before .pre .0) (c .before .before .before .before .before .before .pre .1) (c .before .before .before .before .before .before .pre .2) (c .before .before .before .before .before .before .pre .3) (c .before .loop-test .taken) (c .if1 .taken)
 
 read-event-requires : tie.Need-read-event-requires Inv-loop μ-loop
 read-event-requires c κs = search needs
@@ -127,7 +127,7 @@ same-length-2 : tie.Need-same-length-2 Inv-loop μ-loop
 same-length-2 c = c .before .before .put-closing .kept .0 ∙ c .before .before .before .before .before .before .put-event2 .kept .0 ∙ sized _ _ _ _ _ _ _ _ _ _ (c .before .before .before .before .before .before .before .before .before .before .before .before .before .before .loop .inv)
 
 returns-2 : tie.Need-returns-2 Inv-loop μ-loop
-returns-2 c = stops _ _ _ _ _ _ _ _ (c .before .before .before .before .before .before .before .before .before .before .before .before .before .before .loop .inv) (c .before .before .before .before .before .before .before .before .before .before .before .before .before .before .before .before .before .before .pre .0) (c .before .before .before .before .before .before .before .before .before .before .before .before .before .before .before .before .before .before .pre .1) (c .before .before .before .before .before .before .before .before .before .before .before .before .before .before .before .before .before .before .pre .2) (c .before .before .before .before .before .before .before .before .before .before .before .before .before .before .before .before .before .before .pre .3) _ _ _ _ (c .before .before .before .before .before .before .before .before .before .before .before .before .before .loop-test .taken) (rw (c .before .before .before .before .before .before .before .before .before .enum-told .given .1) at (c .before .before .before .before .before .before .before .before .before .before .before .read-event .ensures)) (c .before .before .before .before .before .before .put-event2 .ensures .0) (c .before .before .put-closing .ensures)
+returns-2 c = stops _ _ _ _ _ _ _ _ (c .before .before .before .before .before .before .before .before .before .before .before .before .before .before .loop .inv) (c .before .before .before .before .before .before .before .before .before .before .before .before .before .before .before .before .before .before .pre .0) (c .before .before .before .before .before .before .before .before .before .before .before .before .before .before .before .before .before .before .pre .1) (c .before .before .before .before .before .before .before .before .before .before .before .before .before .before .before .before .before .before .pre .2) (c .before .before .before .before .before .before .before .before .before .before .before .before .before .before .before .before .before .before .pre .3) _ _ _ _ (c .before .before .before .before .before .before .before .before .before .before .before .before .before .loop-test .taken) (c .before .before .before .before .before .before .before .before .before .before .before .before .if1 .left) (rw (c .before .before .before .before .before .before .before .before .before .enum-told .given .1) at (c .before .before .before .before .before .before .before .before .before .before .before .read-event .ensures)) (c .before .before .before .before .before .before .put-event2 .ensures .0) (c .before .before .put-closing .ensures)
 
 put-closing-requires-2 : tie.Need-put-closing-requires-2 Inv-loop μ-loop
 put-closing-requires-2 c κs = c .before .before .before .loop .inv .room
