@@ -63,7 +63,7 @@ pub(crate) fn plan(t: Terms, m: Move, marks: &[u8; 400], e: Event) -> Move
     accept(m, n, e.day, d)
 }
 
-// The account with service on or off from the event's day on.
+// The move of an accepted order: service on or off.
 fn served(m: Move, day: u32, on: bool) -> Move
     requires { ⌜ m .totals .events < 4096 ⌝ }
     ensures { λ r. ⌜ r ≡ moved m (serves (tallied (m .totals) day) on) 0 ⌝ }

@@ -1,20 +1,17 @@
 -- What `summary` prints, as a definition of the bytes it was given, in the ledger's terms.
 use Prim.Native.Nat.{ℕ, zero, suc}
-use mathlib.Core.Path.{_≡_}
 use mathlib.Core.Bool.{cond}
 use mathlib.Core.List.{List, [], _∷_, _++_}
-use lib.ListN.{length, drop, getD}
-use lib.Dec.{ltb}
-use Rattle.terms.specs.Terms.{validTerms}
+use lib.ListN.{length, getD}
 use Rattle.terms.specs.declared.Terms.{Terms}
 use Rattle.ledger.specs.declared.Event.{Event}
 use Rattle.ledger.specs.declared.Summary.{Summary}
 use Rattle.ledger.specs.Ledger.{opening, ledgerAfter}
 use Rattle.ledger.specs.Months.{ledgerSummary}
-use Rattle.scanner.specs.Scanner.{Read, got, broken}
-use Rattle.text.specs.Text.{readTerms, readEvent}
+use Rattle.scanner.specs.Scanner.{got, broken}
+use Rattle.text.specs.Text.{readEvent}
 use Rattle.printing.specs.Printing.{decimal, Whole}
-use Rattle.transcript.specs.Transcript.{wCode, wFeed, termsLine}
+use Rattle.transcript.specs.Transcript.{wCode, wFeed, byText}
 
 -- ---- the words, as bytes: `m=`, ` kept_count=`, ` kept_sum=`, ` reversed_count=`, ` reversed_sum=`, ` metered_wh=`, ` metered_cost=`,
 -- ` estimated_wh=`, ` estimated_cost=`, ` kind1=` to ` kind5=`, ` average=` and ` missing=`
@@ -100,7 +97,8 @@ monthLines f (suc n) = monthLines f n ++ summaryLine n (f n)
 
 -- ---- the text
 
--- The events that stand in the bytes, up to the end or to the first that breaks the form; k is the number of bytes and one more.
+-- The events that stand in the bytes, up to the end or to the first that breaks the form; k is more than the number of bytes, so
+-- `zero` is not reached.
 unfoldable pub eventsIn : ℕ → List ℕ → List Event
 eventsIn zero s = []
 eventsIn (suc k) s =
@@ -109,14 +107,13 @@ eventsIn (suc k) s =
       | broken ↦ []
     ]
 
+abbrev pub allMonths : Terms → List ℕ → List ℕ
+allMonths t r = monthLines (ledgerSummary t (ledgerAfter t opening (eventsIn (suc (length r)) r) .list)) 15
+
 -- Refused or malformed terms print the one line that `prepay` prints for them.
-abbrev pub byTerms : Read Terms → List ℕ
-byTerms (got t r) = cond (validTerms t) (monthLines (ledgerSummary t (ledgerAfter t opening (eventsIn (suc (length r)) r) .list)) 15) (termsLine 1)
-byTerms broken = termsLine 15
-
 unfoldable pub summaries : List ℕ → List ℕ
-summaries s = cond (ltb 65536 (length s)) (termsLine 15) (byTerms (readTerms s))
+summaries s = byText allMonths s
 
--- What the call leaves: all the lines in a buffer of 8,192 bytes or more.
+-- What `statement::statement` leaves: all the lines in a buffer of 8,192 bytes or more.
 abbrev pub Written : List ℕ → List ℕ → List ℕ → ℕ → Type 0
 Written s = Whole 8192 (summaries s)

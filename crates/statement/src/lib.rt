@@ -15,8 +15,8 @@ ghost use Rattle.scanner.specs.Scanner.{got};
 ghost use Rattle.printing.specs.Printing.{Wrote};
 ghost use Rattle.posting.specs.Posting.{accountAfter};
 ghost use Rattle.months.specs.Summary.{summaryOf};
-ghost use Rattle.transcript.specs.Transcript.{termsLine};
-ghost use Rattle.statement.specs.Statement.{pair, firstPart, usagePart, lastPart, summaryLine, monthLines, eventsIn, byTerms, Written};
+ghost use Rattle.transcript.specs.Transcript.{termsLine, byTerms};
+ghost use Rattle.statement.specs.Statement.{pair, firstPart, usagePart, lastPart, summaryLine, monthLines, eventsIn, allMonths, Written};
 
 // ---- one line
 
@@ -172,7 +172,7 @@ fn put_refusal(out: &mut [u8], code: u8) -> usize
 // What the terms open, from the place after them on.
 fn put_account(text: &[u8], start: usize, terms: Terms, out: &mut [u8]) -> usize
     requires { ⌜ (start ≤ length (now text)) × (8192 ≤ length (now out)) ⌝ }
-    ensures { λ r. ⌜ Wrote (now (out .entry)) 0 (byTerms (got terms (drop start (now (text .entry))))) (now (out .exit)) r ⌝ }
+    ensures { λ r. ⌜ Wrote (now (out .entry)) 0 (byTerms allMonths (got terms (drop start (now (text .entry))))) (now (out .exit)) r ⌝ }
 {
     let opened = account::open(terms);
     let code = opened.code;

@@ -7,7 +7,7 @@ use native.Mathlib.Omega.{arith}
 use lib.ListN.{length, drop, length-drop}
 use lib.Dec.{eqb}
 use borrow.Author.Tests.{lt-ltb, le-ltb, eqb-true, eqb-false}
-use Rattle.terms.specs.Terms.{validTerms, termsCode}
+use Rattle.terms.specs.Terms.{validTerms}
 use Rattle.terms.specs.declared.Terms.{Terms}
 use Rattle.ledger.specs.declared.Event.{Event}
 use Rattle.ledger.specs.Rules.{Ledger}
@@ -23,10 +23,11 @@ use Rattle.refinement.proofs.Refines.{refinement-holds}
 use Rattle.readings.proofs.After.{balance-is, settled-reads}
 use Rattle.scanner.specs.Scanner.{Read, got, broken}
 use Rattle.text.specs.Text.{readTerms, readEvent}
-use Rattle.transcript.specs.Transcript.{line, closing, eventLines, termsLine, byTerms, transcript}
+use Rattle.transcript.specs.Transcript.{line, closing, eventLines, termsLine, byTerms, allLines, transcript}
 use Rattle.transcript.specs.Pieces.{noTerms, startOf, begunOf, Begun}
 use Rattle.transcript.specs.declared.Progress.{Progress}
-use Rattle.transcript.proofs.Whole.{begun, events-left, refusal-left, by-terms}
+use Rattle.transcript.proofs.Whole.{begun, events-left, refusal-left}
+use Rattle.transcript.proofs.Terms.{valid, refused, by-terms}
 use Rattle.transcript.specs.Work.{headLine, headClosing, headLines}
 use Rattle.transcript.proofs.Turn.{by-read, lines-got, lines-broken}
 
@@ -77,30 +78,17 @@ lines-are t v (suc k) a l n (b ∷ s) h = by-read (readEvent (b ∷ s))
 
 -- ---- from the terms
 
-pub wrong : (t : Terms) → (termsCode t ≡ 0 → ⊥) → (validTerms t ≡ false) × (termsCode t ≡ 1)
-unfolding termsCode
-wrong t ne = decide (validTerms t) (λ y. absurd (ne (simp y))) (λ f. (f, simp f))
-
-pub right : (t : Terms) → termsCode t ≡ 0 → validTerms t ≡ true
-unfolding termsCode
-right t e = decide (validTerms t) (λ y. y) (λ f. absurd (let one : _≡_ {A = ℕ} 1 0 = simp f at e in omega arith))
-
 module _ (t : Terms) (o : Opened) (is : o ≡ openOf t) where
-  pub refused : (s : List ℕ) → (o .code ≡ 0 → ⊥) → termsLine (o .code) ≡ byTerms (got t s)
-  refused s ne =
-      let k : o .code ≡ termsCode t = ap (λ (p : Opened). p .code) is in
-      let f = wrong t (λ e. ne (k ∙ e)) in
-      simp (f .0) (ap termsLine (k ∙ f .1))
-
   pub opened : (text : List ℕ) (start : ℕ) → o .code ≡ 0
-      → headLines (suc (length text - start)) (o .account) 1 (drop start text) ≡ byTerms (got t (drop start text))
+      → headLines (suc (length text - start)) (o .account) 1 (drop start text) ≡ byTerms allLines (got t (drop start text))
   opened text start e =
-      let v : validTerms t ≡ true = right t (sym (ap (λ (p : Opened). p .code) is) ∙ e) in
+      let v : validTerms t ≡ true = valid t o is e in
       simp (v, length-drop) (rw (ap (λ (p : Opened). p .account) is) (lines-are t v (suc (length text - start)) (fresh t) opening 1 (drop start text) (refinement-holds t v .opens)))
 
   -- before the first piece
   pub opened-begun : (text : List ℕ) (next : ℕ) → length text ≤ 65536 → next ≤ length text → readTerms text ≡ got t (drop next text)
       → Begun text (record { account = o .account; at = next; count = 0; code = o .code; length = 0; done = false })
+  unfolding transcript
   opened-begun text next l w e =
       let start : Opened → ℕ → Progress = λ p at. record { account = p .account; at = at; count = 0; code = p .code; length = 0; done = false } in
       let there : next ≡ length text - length (drop next text) = rw (length-drop next text) (omega arith) in
@@ -108,8 +96,8 @@ module _ (t : Terms) (o : Opened) (is : o ≡ openOf t) where
       (simp (le-ltb 65536 (length text) l, e) (ap₂ start is there))
       (decide (eqb (o .code) 0)
       (λ y. let z = eqb-true (o .code) 0 y in events-left text (start o next) refl z (omega arith) ∙ opened text next z)
-      (λ n. let z = eqb-false (o .code) 0 n in refusal-left text (start o next) refl (omega arith) z ∙ refused (drop next text) z)
-      ∙ sym (by-terms text (got t (drop next text)) l e))
+      (λ n. let z = eqb-false (o .code) 0 n in refusal-left text (start o next) refl (omega arith) z ∙ refused t o is allLines (drop next text) z)
+      ∙ sym (by-terms allLines text (got t (drop next text)) l e))
       (λ z. l)
 
 -- terms that break their form

@@ -1,3 +1,4 @@
 mod Turn
 pub mod Ledgers
+pub mod Terms
 pub mod Whole

@@ -7,19 +7,15 @@ use native.Mathlib.Nat.{zero-add}
 use native.Mathlib.Omega.{arith}
 use lib.ListN.{length, take, drop, take-append-drop}
 use lib.Seq.{length-take-le, take-at, drop-at}
-use lib.Dec.{eqb, ltb}
 use borrow.Author.Tests.{lt-ltb, le-ltb, le-leb, lt-leb, ne-eqb}
 use Rattle.printing.specs.Printing.{over, Wrote}
 use Rattle.printing.proofs.Placed.{from-start}
 use Rattle.moves.specs.declared.Totals.{Totals}
-use Rattle.terms.specs.declared.Terms.{Terms}
-use Rattle.scanner.specs.Scanner.{Read}
-use Rattle.text.specs.Text.{readTerms}
 use Rattle.ledger.proofs.Cases.{decide}
 use Rattle.readings.specs.Readings.{balanceOf}
-use Rattle.transcript.specs.Transcript.{transcript, termsLine, byTerms, Written}
+use Rattle.transcript.specs.Transcript.{transcript, termsLine, Written}
 use Rattle.transcript.specs.Work.{headLine}
-use Rattle.transcript.specs.Pieces.{linesFrom, unprinted, rest, stays, eventsPiece, pieceOf, begunOf, Piece, Printed, last, then, Begun}
+use Rattle.transcript.specs.Pieces.{linesFrom, rest, stays, eventsPiece, pieceOf, begunOf, Piece, Printed, last, then, Begun}
 use Rattle.transcript.specs.declared.Progress.{Progress}
 
 -- ---- what is still to be printed
@@ -116,14 +112,6 @@ printed s _ _ (then p q before after v m more) = ap (λ (x : List ℕ). take (q 
 
 pub begun : (s : List ℕ) (p : Progress) → p ≡ begunOf s → rest s p ≡ transcript s → (p .code ≡ 0 → length s ≤ 65536) → Begun s p
 begun s p is e l = record { progress = is; all = e; pieces = λ w x. printed s p w x ∙ e; bounded = l }
-
-pub too-long : (s : List ℕ) → 65536 < length s → transcript s ≡ termsLine 15
-unfolding transcript
-too-long s l = simp (lt-ltb 65536 (length s) l)
-
-pub by-terms : (s : List ℕ) (q : Read Terms) → length s ≤ 65536 → readTerms s ≡ q → transcript s ≡ byTerms q
-unfolding transcript
-by-terms s q l e = simp (le-ltb 65536 (length s) l, e)
 
 -- ---- the whole
 

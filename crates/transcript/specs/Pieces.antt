@@ -60,15 +60,17 @@ pieceOf s p room =
     (cond (eqb (p .code) 0) (eventsPiece (suc (length s - p .at)) room s (p .account) (p .at) (p .count) 0)
     (stays p (length (termsLine (p .code))) true))))
 
--- What a call leaves. The first two clauses say it all: the progress after it, and the bytes, which are the next of those still to be printed.
+-- What a call leaves. The first three clauses fix it: the progress after it, the bytes put, which are the next of those still to be printed,
+-- and the bytes past them. The others follow.
 pub record Piece (s : List ℕ) (p : Progress) (before after : List ℕ) (q : Progress) : Type 0 where
   pub progress : q ≡ pieceOf s p (length before)
-  -- the piece, and what is still to be printed after it, are what was still to be printed; the bytes past the piece are as they were
+  -- the piece, and what is still to be printed after it, are what was still to be printed
   pub lines : rest s p ≡ take (q .length) after ++ rest s q
+  -- the bytes past the piece are as they were
   pub others : drop (q .length) after ≡ drop (q .length) before
   pub inside : q .length ≤ length before
-  -- In a buffer of 174 bytes or more, a piece that is not the last one reads on within the text, leaves less than 174 bytes free, and has at
-  -- most 9 bytes for each byte of the text that is read: so 655,360 bytes hold any transcript.
+  -- In a buffer of 174 bytes or more, a piece that is not the last one is of good terms, reads on within the text, leaves less than 174 bytes
+  -- free, and has at most 9 bytes for each byte of the text up to where it ends: so 655,360 bytes hold any transcript.
   pub more : 174 ≤ length before → q .done ≡ false
       → (p .code ≡ 0) × (p .at < q .at) × (q .at ≤ length s) × (length before < q .length + 174) × (q .length ≤ 9 * q .at)
 

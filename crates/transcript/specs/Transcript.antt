@@ -1,9 +1,8 @@
 -- What `prepay` prints, as a definition of the bytes it was given, in the ledger's terms (document 01, "Event text").
 use Prim.Native.Nat.{ℕ, zero, suc, _+_}
-use mathlib.Core.Path.{_≡_}
-use mathlib.Core.Bool.{Bool, true, cond}
+use mathlib.Core.Bool.{cond}
 use mathlib.Core.List.{List, [], _∷_, _++_}
-use lib.ListN.{length, drop}
+use lib.ListN.{length}
 use lib.Dec.{ltb}
 use lib.IntN.{ℤ, pos}
 use Rattle.terms.specs.Terms.{validTerms}
@@ -71,13 +70,21 @@ eventLines (suc k) t l n (b ∷ s) =
 abbrev pub termsLine : ℕ → List ℕ
 termsLine code = line 0 code 0 (pos 0) 0
 
+-- What is printed for a text, by what is printed for good terms and the bytes after them.
 -- "15 precedes the event it stands in; in the terms it precedes 1, and a text too long has malformed terms."
-abbrev pub byTerms : Read Terms → List ℕ
-byTerms (got t r) = cond (validTerms t) (eventLines (suc (length r)) t opening 1 r) (termsLine 1)
-byTerms broken = termsLine 15
+abbrev pub byTerms : (Terms → List ℕ → List ℕ) → Read Terms → List ℕ
+byTerms lines (got t r) = cond (validTerms t) (lines t r) (termsLine 1)
+byTerms lines broken = termsLine 15
+
+abbrev pub byText : (Terms → List ℕ → List ℕ) → List ℕ → List ℕ
+byText lines s = cond (ltb 65536 (length s)) (termsLine 15) (byTerms lines (readTerms s))
+
+-- what `prepay` prints
+abbrev pub allLines : Terms → List ℕ → List ℕ
+allLines t r = eventLines (suc (length r)) t opening 1 r
 
 unfoldable pub transcript : List ℕ → List ℕ
-transcript s = cond (ltb 65536 (length s)) (termsLine 15) (byTerms (readTerms s))
+transcript s = byText allLines s
 
 -- What `transcript::transcript` leaves: the whole transcript in a buffer of 655,360 bytes or more.
 abbrev pub Written : List ℕ → List ℕ → List ℕ → ℕ → Type 0

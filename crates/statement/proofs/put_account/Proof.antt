@@ -2,7 +2,7 @@
 -- Assumes nothing.
 use lib.ListN.{drop}
 use denote.Ref.{now}
-use Rattle.statement.proofs.Whole.{refused, opened}
+use Rattle.statement.proofs.Whole.{no-account, opened}
 use borrow.Author.Needs.{needs}
 use Rattle.statement.proofs.put_account.Statement.{statement}
 use Rattle.statement.proofs.put_account.Tie as tie
@@ -17,7 +17,7 @@ same-length : tie.Need-same-length
 same-length c = search needs
 
 returns : tie.Need-returns
-returns c = let a = c .before .before .before .before .before .before .before .before .args in refused _ _ (c .before .before .before .before .before .open .ensures) (drop (a .start) (now (a .text))) (c .before .before .before .before .if1 .taken) (c .before .before .put-refusal .ensures)
+returns c = let a = c .before .before .before .before .before .before .before .before .args in no-account _ _ (c .before .before .before .before .before .open .ensures) (drop (a .start) (now (a .text))) (c .before .before .before .before .if1 .taken) (c .before .before .put-refusal .ensures)
 
 post-events-requires : tie.Need-post-events-requires
 post-events-requires c κs = search needs

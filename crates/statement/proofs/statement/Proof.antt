@@ -1,12 +1,12 @@
 -- `statement::statement` meets its contract.
 -- Assumes nothing.
-use mathlib.Core.Path.{refl}
 use denote.Ref.{now}
 use Rattle.scanner.specs.Scanner.{broken}
 use Rattle.text.specs.Text.{TermsAt}
 use Rattle.text.specs.declared.TermsRead.the-variants.{Got}
-use Rattle.printing.proofs.Placed.{none-put}
-use Rattle.statement.proofs.Whole.{too-long, by-terms}
+use Rattle.printing.proofs.Placed.{none-put, all-put}
+use Rattle.transcript.proofs.Terms.{too-long, by-terms}
+use Rattle.statement.specs.Statement.{allMonths, summaries}
 use borrow.Author.Needs.{needs}
 use Rattle.statement.proofs.statement.Statement.{statement}
 use Rattle.statement.proofs.statement.Tie as tie
@@ -25,7 +25,8 @@ same-length : tie.Need-same-length
 same-length c = search needs
 
 returns-2 : tie.Need-returns-2
-returns-2 c = too-long _ _ _ _ _ (c .before .before .before .before .before .if1 .left) (c .before .before .put-refusal .ensures) (c .before .before .before .before .if2 .taken) refl
+unfolding summaries
+returns-2 c = all-put _ _ (c .before .before .before .before .before .if1 .left) (c .before .before .put-refusal .ensures) (too-long allMonths (now (c .before .before .before .before .before .before .before .before .args .text)) (c .before .before .before .before .if2 .taken))
 
 read-terms-requires : tie.Need-read-terms-requires
 read-terms-requires c κs = search needs
@@ -46,13 +47,15 @@ same-length-2 : tie.Need-same-length-2
 same-length-2 c = search needs
 
 returns-3 : tie.Need-returns-3
-returns-3 c = let e = read-as (c .before .before .before .before .before) in by-terms _ _ _ _ _ (c .before .before .before .before .before .before .before .before .before .if1 .left) (c .before .before .put-account .ensures) _ (c .before .before .before .before .before .before .before .before .if2 .left) (e .0) refl
+unfolding summaries
+returns-3 c = let e = read-as (c .before .before .before .before .before) in all-put _ _ (c .before .before .before .before .before .before .before .before .before .if1 .left) (c .before .before .put-account .ensures) (by-terms allMonths _ _ (c .before .before .before .before .before .before .before .before .if2 .left) (e .0))
 
 same-length-3 : tie.Need-same-length-3
 same-length-3 c = search needs
 
 returns-4 : tie.Need-returns-4
-returns-4 c = by-terms _ _ _ _ _ (c .before .before .before .before .before .before .before .before .if1 .left) (c .before .before .put-refusal2 .ensures) broken (c .before .before .before .before .before .before .before .if2 .left) (rw (c .before .before .before .before .enum-told .given .1) at (c .before .before .before .before .before .before .read-terms .ensures)) refl
+unfolding summaries
+returns-4 c = all-put _ _ (c .before .before .before .before .before .before .before .before .if1 .left) (c .before .before .put-refusal2 .ensures) (by-terms allMonths _ broken (c .before .before .before .before .before .before .before .if2 .left) (rw (c .before .before .before .before .enum-told .given .1) at (c .before .before .before .before .before .before .read-terms .ensures)))
 
 pub statement-spec : {M : Type 1} → statement M
 statement-spec =

@@ -4,7 +4,8 @@ use denote.Ref.{now}
 use Rattle.scanner.specs.Scanner.{broken}
 use Rattle.text.specs.Text.{readTerms, TermsAt}
 use Rattle.text.specs.declared.TermsRead.the-variants.{Got}
-use Rattle.transcript.proofs.Whole.{too-long, by-terms}
+use Rattle.transcript.specs.Transcript.{transcript, allLines}
+use Rattle.transcript.proofs.Terms.{too-long, by-terms}
 use Rattle.transcript.proofs.Ledgers.{opened-begun, begun-long, begun-broken, malformed-begun}
 use borrow.Author.Needs.{needs}
 use Rattle.transcript.proofs.begin.Statement.{statement}
@@ -14,7 +15,8 @@ malformed-requires : tie.Need-malformed-requires
 malformed-requires c κs = search needs
 
 returns : tie.Need-returns
-returns c = let l = c .before .if1 .taken in let s = now (c .before .before .before .args .text) in malformed-begun s _ (c .malformed .ensures) (begun-long s l) (too-long s l)
+unfolding transcript
+returns c = let l = c .before .if1 .taken in let s = now (c .before .before .before .args .text) in malformed-begun s _ (c .malformed .ensures) (begun-long s l) (too-long allLines s l)
 
 read-terms-requires : tie.Need-read-terms-requires
 read-terms-requires c κs = search needs
@@ -29,7 +31,8 @@ malformed-requires-2 : tie.Need-malformed-requires-2
 malformed-requires-2 c κs = search needs
 
 returns-2 : tie.Need-returns-2
-returns-2 c = let l = c .before .before .before .before .if1 .left in let s = now (c .before .before .before .before .before .before .args .text) in let e : readTerms s ≡ broken = rw (c .before .enum-told .given .1) at (c .before .before .before .read-terms .ensures) in malformed-begun s _ (c .malformed2 .ensures) (begun-broken s l e) (by-terms s broken l e)
+unfolding transcript
+returns-2 c = let l = c .before .before .before .before .if1 .left in let s = now (c .before .before .before .before .before .before .args .text) in let e : readTerms s ≡ broken = rw (c .before .enum-told .given .1) at (c .before .before .before .read-terms .ensures) in malformed-begun s _ (c .malformed2 .ensures) (begun-broken s l e) (by-terms allLines s broken l e)
 
 open-requires : tie.Need-open-requires
 open-requires c κs = search needs
