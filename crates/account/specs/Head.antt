@@ -1,5 +1,6 @@
 -- The head's step: what one event does to the record.
 use Prim.Native.Nat.{ℕ, _+_, _*_, _-_, _/_, min}
+use mathlib.Core.Path.{_≡_}
 use mathlib.Core.Bool.{Bool, true, false, cond, not, _&&_, _||_}
 use mathlib.Core.List.{List}
 use lib.ListN.{getD, set}
@@ -21,6 +22,10 @@ use Rattle.account.specs.declared.Opened.{Opened}
 
 abbrev pub openOf : Terms → Opened
 openOf t = record { account = fresh t; code = termsCode t }
+
+-- what `account::open` promises
+abbrev pub IsOpened : Terms → Opened → Type 0
+IsOpened t r = r ≡ openOf t
 
 -- ---- an accepted event's record: what changes, and what stays
 

@@ -7,7 +7,7 @@ use moves::Totals;
 use moves::Usage;
 use terms::Terms;
 ghost use mathlib.Core.Path.{_≡_};
-ghost use Rattle.account.specs.Head.{stepOf, openOf};
+ghost use Rattle.account.specs.Head.{stepOf, IsOpened};
 ghost use Rattle.account.specs.Record.{fresh};
 
 // One account: its terms, its totals, and what is kept by usage day, day, payment, and month with charge kind.
@@ -69,7 +69,7 @@ fn empty(t: Terms) -> Account
 
 // A fresh account of these terms. Where they are outside their limits the code is 1 and the record no account: every event gets 1.
 pub fn open(t: Terms) -> Opened
-    ensures { λ r. ⌜ r ≡ openOf t ⌝ }
+    ensures { λ r. ⌜ IsOpened t r ⌝ }
 {
     Opened {
         account: empty(t),

@@ -127,3 +127,7 @@ ledgerStep t l e =
 unfoldable pub ledgerAfter : Terms → Ledger → List Event → Ledger
 ledgerAfter t l [] = l
 ledgerAfter t l (e ∷ es) = ledgerAfter t (ledgerStep t l e .ledger) es
+
+-- the ledger fed these events from its opening on
+abbrev pub ledgerOf : Terms → List Event → Ledger
+ledgerOf t es = ledgerAfter t opening es

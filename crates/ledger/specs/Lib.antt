@@ -2,6 +2,7 @@ pub mod Event
 pub mod Entries
 pub mod Rules
 pub mod Ledger
+pub mod Calls
 pub mod Sums
 pub mod Invariant
 pub mod Months

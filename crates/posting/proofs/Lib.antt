@@ -1,3 +1,5 @@
+pub mod Ledgers
 pub mod RowTurn
 pub mod StepCall
+pub mod Lent
 pub mod Walk

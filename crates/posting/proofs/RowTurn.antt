@@ -12,7 +12,9 @@ use lib.Dec.{ltb}
 use Rattle.ledger.specs.declared.Event.{Event}
 use Rattle.account.specs.Head.{stepOf}
 use Rattle.account.specs.declared.Account.{Account}
-use Rattle.posting.specs.Posting.{accountAfter, codesOf, Row, rowOf, IsRow}
+use Rattle.refinement.specs.Lists.{accountAfter, codesOf}
+use Rattle.posting.specs.Posting.{Row, rowOf, PostsRow}
+use Rattle.posting.proofs.Ledgers.{posts-row}
 
 -- a row of the events es, posted to the account a, with the lent buffer cs
 module _ (a : Account) (es : List Event) (cs : List ℕ) where
@@ -45,19 +47,18 @@ module _ (a : Account) (es : List Event) (cs : List ℕ) where
   }
 
   -- every event is done: the row's answer is 0
-  pub ends : (i : ℕ) (h : Account) (ys : List ℕ) → ltb (length cs) (length es) ≡ false → length es ≤ i → Fine i h ys → IsRow (rowOf a es cs) h ys 0
+  pub ends : (i : ℕ) (h : Account) (ys : List ℕ) → ltb (length cs) (length es) ≡ false → length es ≤ i → Fine i h ys → PostsRow a es cs h ys 0
   unfolding accountAfter codesOf rowOf
   ends i h ys room over f =
       let all : i ≡ length es = le-antisymm (f .upto) over in
       let none : drop i es ≡ [] = ap (λ (k : ℕ). drop k es) all ∙ drop-length es in
       let left : List Event → List ℕ = λ (l : List Event). take i ys ++ (codesOf h l ++ drop (length es) ys) in
-      record {
-        account = simp room (ap (accountAfter h) (sym none) ∙ f .account);
-        codes = simp room (sym (take-append-drop i ys) ∙ ap (λ (k : ℕ). take i ys ++ drop k ys) all ∙ ap left (sym none) ∙ f .codes);
-        answer = simp room;
-      }
+      posts-row a es cs h ys 0
+      (simp room (ap (accountAfter h) (sym none) ∙ f .account))
+      (simp room (sym (take-append-drop i ys) ∙ ap (λ (k : ℕ). take i ys ++ drop k ys) all ∙ ap left (sym none) ∙ f .codes))
+      (simp room)
 
   -- the buffer is shorter than the row: 16, and all is as it was
-  pub short : ltb (length cs) (length es) ≡ true → IsRow (rowOf a es cs) a cs 16
+  pub short : ltb (length cs) (length es) ≡ true → PostsRow a es cs a cs 16
   unfolding rowOf
-  short t = record { account = simp t; codes = simp t; answer = simp t }
+  short t = posts-row a es cs a cs 16 (simp t) (simp t) (simp t)

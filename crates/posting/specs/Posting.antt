@@ -1,4 +1,4 @@
--- What the posting calls do to the account and to the lent buffer, by the head's step.
+-- What the posting calls promise of the account, of the answer and of the lent buffer: by the account's step, and in the ledger's terms.
 use Prim.Native.Nat.{ℕ}
 use mathlib.Core.Path.{_≡_}
 use mathlib.Core.Bool.{cond}
@@ -7,27 +7,20 @@ use lib.ListN.{length, drop}
 use lib.Dec.{ltb}
 use Rattle.ledger.specs.declared.Event.{Event}
 use Rattle.ledger.specs.declared.Answer.{Answer}
+use Rattle.ledger.specs.Calls.{single, row, answered, written}
 use Rattle.account.specs.Head.{stepOf}
 use Rattle.account.specs.declared.Account.{Account}
 use Rattle.account.specs.declared.Posted.{Posted}
+use Rattle.refinement.specs.Lists.{accountAfter, codesOf, IsCalled}
 
 abbrev pub answerOf : Posted → Answer
 answerOf p = record { code = p .code; value = p .value }
 
--- the account after the events of a row, in order
-unfoldable pub accountAfter : Account → List Event → Account
-accountAfter a [] = a
-accountAfter a (e ∷ es) = accountAfter (stepOf a e .account) es
-
--- "one code byte each": the codes of a row's events
-unfoldable pub codesOf : Account → List Event → List ℕ
-codesOf a [] = []
-codesOf a (e ∷ es) = stepOf a e .code ∷ codesOf (stepOf a e .account) es
-
--- a single post: the account after it and the answer
-pub record IsPosted (p : Posted) (a : Account) (r : Answer) : Type 0 where
-  pub account : a ≡ p .account
-  pub answer : r ≡ answerOf p
+-- `post` of event e to account a: it leaves account b and answers r.
+pub record Posts (a : Account) (e : Event) (b : Account) (r : Answer) : Type 0 where
+  pub account : b ≡ stepOf a e .account
+  pub answer : r ≡ answerOf (stepOf a e)
+  pub ledgers : IsCalled a (single e) (answered r) b
 
 -- a row's account, buffer and own answer after it
 pub record Row : Type 0 where
@@ -43,7 +36,9 @@ rowOf a es buffer =
     (record { account = a; codes = buffer; answer = 16 })
     (record { account = accountAfter a es; codes = codesOf a es ++ drop (length es) buffer; answer = 0 })
 
-pub record IsRow (w : Row) (a : Account) (buffer : List ℕ) (r : ℕ) : Type 0 where
-  pub account : a ≡ w .account
-  pub codes : buffer ≡ w .codes
-  pub answer : r ≡ w .answer
+-- `post_row` of the events es to account a, with a lent buffer: it leaves account b and the bytes of the buffer, and answers r.
+pub record PostsRow (a : Account) (es : List Event) (buffer : List ℕ) (b : Account) (bytes : List ℕ) (r : ℕ) : Type 0 where
+  pub account : b ≡ rowOf a es buffer .account
+  pub codes : bytes ≡ rowOf a es buffer .codes
+  pub answer : r ≡ rowOf a es buffer .answer
+  pub ledgers : IsCalled a (row es buffer) (written r bytes) b

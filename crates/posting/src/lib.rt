@@ -1,16 +1,15 @@
 // The posting calls over a lent account: one event, and a row of events.
-// It uses the account's step. Its promises cite specs/Posting.antt.
+// It uses the account's step. Its promises cite specs/Posting.antt: by the step, and in the ledger's terms.
 use account::Account;
+use account::Posted;
 use account::step;
 use ledger::Answer;
 use ledger::Event;
-ghost use mathlib.Core.Path.{_≡_};
-ghost use Rattle.account.specs.Head.{stepOf};
-ghost use Rattle.posting.specs.Posting.{IsPosted, IsRow, rowOf};
+ghost use Rattle.posting.specs.Posting.{answerOf, Posts, PostsRow};
 
 // One event.
 pub fn post(a: &mut Account, e: Event) -> Answer
-    ensures { λ r. ⌜ IsPosted (stepOf (now (a .entry)) e) (now (a .exit)) r ⌝ }
+    ensures { λ r. ⌜ Posts (now (a .entry)) e (now (a .exit)) r ⌝ }
 {
     let before = *a;
     let posted = step(before, e);
@@ -21,9 +20,22 @@ pub fn post(a: &mut Account, e: Event) -> Answer
     }
 }
 
+// One event, by value: the account is lent to `post`, and handed back with the answer.
+pub fn post_by_value(a: Account, e: Event) -> Posted
+    ensures { λ r. ⌜ Posts a e (r .account) (answerOf r) ⌝ }
+{
+    let mut b = a;
+    let answer = post(&mut b, e);
+    Posted {
+        account: b,
+        code: answer.code,
+        value: answer.value,
+    }
+}
+
 // A row of events in order, one code byte each; 16 where the buffer is shorter than the row.
 pub fn post_row(a: &mut Account, row: &[Event], codes: &mut [u8]) -> u8
-    ensures { λ r. ⌜ IsRow (rowOf (now (a .entry)) (now (row .entry)) (now (codes .entry))) (now (a .exit)) (now (codes .exit)) r ⌝ }
+    ensures { λ r. ⌜ PostsRow (now (a .entry)) (now (row .entry)) (now (codes .entry)) (now (a .exit)) (now (codes .exit)) r ⌝ }
 {
     if codes.len() < row.len() {
         return 16;

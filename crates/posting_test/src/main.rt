@@ -1,22 +1,14 @@
-// The posting calls over a lent account, row and buffer. Each is called by a thin function that takes the account and the row by value,
-// lends them, and says what was left; its promise is the call's own.
+// The posting calls over a lent account, row and buffer. `post` is called through `post_by_value`; `post_row` by a thin function that takes
+// the account and the row by value, lends them, and says what was left; its promise is the call's own.
 // A line `n` is an event of the paper's example, a line `row` a row of so many events: its own answer, and the code in each byte of the buffer.
 // The lines of the file stdout are worked out from document 01 by hand; none is copied from a run.
 use account::Account;
 use calendar::Date;
-use ledger::Answer;
 use ledger::Event;
 use libc::STDOUT_FILENO;
 use moves::Totals;
 use terms::Terms;
-ghost use Rattle.account.specs.Head.{stepOf};
-ghost use Rattle.posting.specs.Posting.{IsPosted, IsRow, rowOf};
-
-// The account after an event, and the answer to it.
-struct One {
-    account: Account,
-    answer: Answer,
-}
+ghost use Rattle.posting.specs.Posting.{PostsRow};
 
 // The account after a row, and the row's own answer.
 struct Done {
@@ -24,16 +16,8 @@ struct Done {
     answer: u8,
 }
 
-fn one_event(a: Account, e: Event) -> One
-    ensures { λ r. ⌜ IsPosted (stepOf a e) (r .account) (r .answer) ⌝ }
-{
-    let mut b = a;
-    let answer = posting::post(&mut b, e);
-    One { account: b, answer }
-}
-
 fn row_of_five(a: Account, row: [Event; 5], codes: &mut [u8]) -> Done
-    ensures { λ r. ⌜ IsRow (rowOf a row (now (codes .entry))) (r .account) (now (codes .exit)) (r .answer) ⌝ }
+    ensures { λ r. ⌜ PostsRow a row (now (codes .entry)) (r .account) (now (codes .exit)) (r .answer) ⌝ }
 {
     let mut b = a;
     let answer = posting::post_row(&mut b, &row, codes);
@@ -41,7 +25,7 @@ fn row_of_five(a: Account, row: [Event; 5], codes: &mut [u8]) -> Done
 }
 
 fn row_of_none(a: Account, row: [Event; 0], codes: &mut [u8]) -> Done
-    ensures { λ r. ⌜ IsRow (rowOf a row (now (codes .entry))) (r .account) (now (codes .exit)) (r .answer) ⌝ }
+    ensures { λ r. ⌜ PostsRow a row (now (codes .entry)) (r .account) (now (codes .exit)) (r .answer) ⌝ }
 {
     let mut b = a;
     let answer = posting::post_row(&mut b, &row, codes);
@@ -185,18 +169,17 @@ fn in_turn() {
 
 // ---- the paper's worked example, event by event
 
-fn say_event(n: u64, answer: Answer, s: Totals) {
+fn say_event(n: u64, code: u8, value: u64, s: Totals) {
     say(b"n=", n);
-    say(b" code=", answer.code as u64);
-    say(b" value=", answer.value);
+    say_code(code);
+    say(b" value=", value);
     say_account(s);
 }
 
 fn show(a: Account, n: u64, e: Event) -> Account {
-    let o = one_event(a, e);
-    let after = o.account;
-    let answer = o.answer;
-    say_event(n, answer, after.totals);
+    let p = posting::post_by_value(a, e);
+    let after = p.account;
+    say_event(n, p.code, p.value, after.totals);
     after
 }
 

@@ -6,3 +6,4 @@ pub mod Payments
 pub mod Usage
 pub mod Service
 pub mod Refines
+pub mod Lists

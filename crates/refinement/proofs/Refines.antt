@@ -20,12 +20,11 @@ use Rattle.ledger.specs.Ledger.{opening, ledgerStep}
 use Rattle.ledger.specs.Entries as entries
 use Rattle.ledger.proofs.Cases.{decide}
 use Rattle.ledger.specs.Invariant.{Invariant}
-use Rattle.ledger.proofs.Identity.{invariant-valid, invariant-step}
 use Rattle.account.specs.Record.{fresh, blankDay, noPayment}
 use Rattle.moves.specs.Moves.{earlyCode}
 use Rattle.account.specs.Head.{bySort, stepOf}
 use Rattle.account.specs.declared.Account.{Account}
-use Rattle.refinement.specs.Agree.{Agree, Same, warnedOn, Stands, Refinement}
+use Rattle.refinement.specs.Agree.{Agree, Same, warnedOn}
 use Rattle.refinement.proofs.Refusals.{Passes, code-2, code-3, code-4}
 use Rattle.refinement.proofs.Agreed.{early-is, refused-same, passed}
 use Rattle.refinement.proofs.Payments.{pay-same, reverse-same, credit-same, charge-same}
@@ -89,12 +88,4 @@ agree-fresh t v = record {
     warned = length-replicate {A = ℕ} 400 0;
     charges = length-replicate {A = ℕ} 75 0;
   };
-}
-
-pub refinement-holds : (t : Terms) → validTerms t ≡ true → Refinement t
-refinement-holds t v = record {
-  opens = record { agree = agree-fresh t v; invariant = invariant-valid t v };
-  code = λ a l e s. refines t a l e (s .invariant) (s .agree) .code;
-  value = λ a l e s. refines t a l e (s .invariant) (s .agree) .value;
-  again = λ a l e s. record { agree = refines t a l e (s .invariant) (s .agree) .again; invariant = invariant-step t l e (s .invariant) };
 }

@@ -2,6 +2,7 @@
 use Prim.Native.Nat.{ℕ, suc, _+_, _*_, _≤_, _<_}
 use mathlib.Core.Path.{_≡_}
 use mathlib.Core.Bool.{Bool, true, cond, _&&_}
+use mathlib.Core.List.{List}
 use lib.ListN.{length, getD}
 use lib.Dec.{eqb}
 use lib.IntN.{ℤ, pos, _-ℤ_}
@@ -12,7 +13,8 @@ use Rattle.ledger.specs.declared.Answer.{Answer}
 use Rattle.ledger.specs.Event.{isWarn}
 use Rattle.ledger.specs.Entries.{Entries, any, lastDay, payments, payment, reversed, UsageDay, blank, estimated, metered, usageDay, covered}
 use Rattle.ledger.specs.Rules.{Ledger}
-use Rattle.ledger.specs.Ledger.{Outcome, opening, ledgerStep}
+use Rattle.ledger.specs.Ledger.{Outcome, opening, ledgerStep, ledgerAfter}
+use Rattle.ledger.specs.Calls.{ledgerCodes}
 use Rattle.ledger.specs.Invariant.{Invariant}
 use Rattle.ledger.specs.Sums.{standing}
 use Rattle.ledger.specs.Months.{chargesIn}
@@ -24,6 +26,7 @@ use Rattle.moves.specs.declared.Payment.{Payment}
 use Rattle.moves.specs.declared.Totals.{Totals}
 use Rattle.account.specs.declared.Account.{Account}
 use Rattle.account.specs.declared.Posted.{Posted}
+use Rattle.refinement.specs.Lists.{accountAfter, codesOf}
 
 -- a usage day's state as the record has it
 abbrev pub usageOf : UsageDay → Usage
@@ -111,3 +114,6 @@ pub record Refinement (t : Terms) : Type 0 where
   pub code : (a : Account) (l : Ledger) (e : Event) → Stands t a l → stepOf a e .code ≡ ledgerStep t l e .answer .code
   pub value : (a : Account) (l : Ledger) (e : Event) → Stands t a l → stepOf a e .value ≡ ledgerStep t l e .answer .value
   pub again : (a : Account) (l : Ledger) (e : Event) → Stands t a l → Stands t (stepOf a e .account) (ledgerStep t l e .ledger)
+  -- and so over every list of events
+  pub codes : (a : Account) (l : Ledger) (es : List Event) → Stands t a l → codesOf a es ≡ ledgerCodes t l es
+  pub after : (a : Account) (l : Ledger) (es : List Event) → Stands t a l → Stands t (accountAfter a es) (ledgerAfter t l es)

@@ -53,6 +53,7 @@ use Rattle.account.proofs.step.Symbol as step-def
 use Rattle.account.proofs.step.Symbol.{name as #account·step}
 use Rattle.account.proofs.step.Met as step-thm
 use Rattle.posting.specs.Posting.{answerOf}
+use Rattle.posting.proofs.Ledgers.{posts}
 use Rattle.posting.proofs.StepCall.{valT, valE, account-is, Stepped, stepped-of, to-step, goes-step}
 use Rattle.posting.proofs.post.Key.{name as #posting·post}
 use Rattle.posting.proofs.post as post
@@ -82,7 +83,7 @@ module _ {M : Type 1} (𝓤 : URA M) (H : Heap 𝓤) (A : Atoms 𝓤) (W : Given
   exits r v eq is ge =
       qed W (‵ (fobs γ (T.the-row .coded .code (r .account))) ∷ ‵ (fbor κ (Body (mem T.the-row) b o γ)) ∷ ‵ (flft κ q) ∷ []) ∵
       suffices ! _ (ends-at 𝓤 H A post.ended stayed (post.clauses 𝓤 H A at-mem run) W (((κ, tt), (q, tt), tt, x, at), tt) (LL.val N.the-type N′.the-laws (answerOf r)) (answerOf r) (r .account, (tt, tt)) (tt, (tt, tt))) $
-      says ! (record { account = ap (λ (p : Posted). p .account) eq; answer = ap answerOf eq }) $ nothing ! $ move ! (3 ∷ 0 ∷ []) $ join ! $
+      says ! (posts h e (r .account) (answerOf r) (ap (λ (p : Posted). p .account) eq) (ap answerOf eq)) $ nothing ! $ move ! (3 ∷ 0 ∷ []) $ join ! $
       frame ! $ feqI ! (List Val) (vptr b o ∷ []) (vptr b o ∷ []) refl $ fjoin3 ! $ nothing ! $ owned ! E.the-row (Is E.the-row) (LL.makes E.the-type E′.the-plain 𝓤 H A) e _ ge $ fjoin ! $ move ! (1 ∷ 0 ∷ []) $ fjoin ! $
       owned ! N.the-row (Is N.the-row) (LL.makes N.the-type N′.the-plain 𝓤 H A) (answerOf r) _ (answer-is r v is) $ move ! (1 ∷ 0 ∷ []) $ done !
 

@@ -66,7 +66,7 @@ use Rattle.account.proofs.step as step
 use Rattle.account.proofs.step.Symbol as step-def
 use Rattle.account.proofs.step.Symbol.{name as #account·step}
 use Rattle.account.proofs.step.Met as step-thm
-use Rattle.posting.specs.Posting.{rowOf, IsRow}
+use Rattle.posting.specs.Posting.{PostsRow}
 use Rattle.posting.proofs.RowTurn.{Fine, starts, goes-on, ends, short}
 use Rattle.posting.proofs.StepCall.{valT, valE, account-is, Stepped, stepped-of, to-step, goes-step}
 use Rattle.posting.proofs.Walk.{guards, whiles}
@@ -131,7 +131,7 @@ module _ {M : Type 1} (𝓤 : URA M) (H : Heap 𝓤) (A : Atoms 𝓤) (W : Given
       ∷ ‵ (fres γr (codedHoleys E.the-row .code (heres E.the-row es))) ∷ ‵ (fshr-bor (κs .1 .0) (λ s. arr-parts (shares E.the-row) n .part s es br or)) ∷ ‵ (flft (κs .1 .0) (qs .1 .0))
       ∷ ‵ (fobs γc (codedHoleys u8 .code (heres u8 ys))) ∷ ‵ (fbor (κs .1 .1 .0) (Held u8 (length ys) bc oc γc)) ∷ ‵ (flft (κs .1 .1 .0) (qs .1 .1 .0)) ∷ []
 
-  exits : (h : Account) (ys : List ℕ) (r : ℕ) → IsRow (rowOf h₀ es cs) h ys r → r < 2 ^ 8 → length ys ≡ m → ent 𝓤 (⋆ 𝓤 H A (Nine h ys)) (Post (vint w8 r))
+  exits : (h : Account) (ys : List ℕ) (r : ℕ) → PostsRow h₀ es cs h ys r → r < 2 ^ 8 → length ys ≡ m → ent 𝓤 (⋆ 𝓤 H A (Nine h ys)) (Post (vint w8 r))
   exits h ys r is fits same =
       qed W (Nine h ys) ∵ suffices ! _ (ends-at 𝓤 H A f.ended stayed (f.clauses 𝓤 H A at-mem run) W ((κs, qs, tt, x, at), tt) (vint w8 r) r (h, (tt, (ys, tt))) (tt, (tt, (same, tt)))) $ says ! is $
       nothing ! $ move ! (9 ∷ 0 ∷ []) $ join ! $ move ! (6 ∷ 0 ∷ []) $ join ! $ move ! (3 ∷ 0 ∷ []) $ join ! $ frame ! $

@@ -1,5 +1,5 @@
--- `refinement::refinement` meets its contract, which is the theorem of `proofs/Refines.antt`.
-use Rattle.refinement.proofs.Refines.{refinement-holds}
+-- `refinement::refinement` meets its contract, which is the theorem of `proofs/Lists.antt`.
+use Rattle.refinement.proofs.Lists.{refinement-holds}
 use Rattle.refinement.proofs.refinement.Statement.{statement}
 use Rattle.refinement.proofs.refinement.Tie as tie
 
