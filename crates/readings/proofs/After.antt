@@ -1,77 +1,68 @@
--- The account after a list of events agrees with the ledger fed the same list; so what is read off its totals is the ledger's.
+-- What is read off the totals of an account that stands for a ledger is the ledger's.
 -- Assumes nothing.
 use mathlib.Core.Path.{_≡_, refl, sym, ap, _∙_}
-use mathlib.Core.Bool.{Bool, true, false, cond}
-use mathlib.Core.List.{List, [], _∷_}
+use mathlib.Core.Bool.{Bool}
+use mathlib.Core.List.{List}
 use Prim.Native.Nat.{ℕ, _+_, _*_, _≤_}
 use native.Mathlib.Omega.{arith}
 use lib.IntN.{ℤ, pos, _+ℤ_, _-ℤ_}
 use borrow.Author.Tests.{le-leb}
-use Rattle.terms.specs.Terms.{validTerms}
 use Rattle.terms.specs.declared.Terms.{Terms}
 use Rattle.ledger.specs.declared.Event.{Event}
 use Rattle.ledger.specs.Rules.{Ledger}
+use Rattle.ledger.specs.Ledger.{ledgerOf}
 use Rattle.ledger.specs.Sums as sums
-use Rattle.ledger.specs.Ledger.{opening, ledgerStep, ledgerAfter}
 use Rattle.ledger.proofs.Money.{diff, diff-add, diff-sub}
-use Rattle.ledger.specs.Invariant.{Invariant}
 use Rattle.ledger.proofs.Identity.{settled-is}
-use Rattle.account.specs.Record.{fresh}
-use Rattle.moves.specs.Moves.{most}
-use Rattle.account.specs.Head.{stepOf}
-use Rattle.account.specs.declared.Account.{Account}
 use Rattle.moves.specs.declared.Totals.{Totals}
-use Rattle.posting.specs.Posting.{accountAfter}
+use Rattle.account.specs.declared.Account.{Account}
+use Rattle.refinement.specs.Lists.{Made}
 use Rattle.refinement.specs.Agree.{Sums, Bounds, Stands}
-use Rattle.refinement.proofs.Refines.{refinement-holds}
-use Rattle.readings.specs.Readings.{balanceOf, settledOf, Made, IsLedgers}
+use Rattle.refinement.proofs.Lists.{made-stands}
+use Rattle.readings.specs.Readings.{balanceOf, settledOf, Reading, IsBalance, IsPlan, IsService, IsSettled, IsEstimates}
 
-pub stands-after : (t : Terms) → validTerms t ≡ true → (es : List Event) (a : Account) (l : Ledger) → Stands t a l → Stands t (accountAfter a es) (ledgerAfter t l es)
-unfolding accountAfter ledgerAfter
-stands-after t v [] a l s = s
-stands-after t v (e ∷ es) a l s = stands-after t v es (stepOf a e .account) (ledgerStep t l e .ledger) (refinement-holds t v .again a l e s)
+module _ (t : Terms) (a : Account) (l : Ledger) (q : Stands t a l) where
+  abbrev s : Totals
+  s = a .totals
 
--- ---- the readings of totals that agree
+  abbrev g : Sums t s l
+  g = q .agree .sums
 
-module _ (t : Terms) (s : Totals) (l : Ledger) (g : Sums t s l) (b : Bounds s) where
-  pub balance-is : balanceOf s ≡ l .balance
+  abbrev b : Bounds s
+  b = q .agree .bounds
+
+  pub balance-reading : balanceOf s ≡ l .balance
   unfolding balanceOf
-  balance-is = simp (le-leb (s .credit) 1152921504606846976 (omega (arith, b .credit, b .full)), le-leb (s .debit) 1152921504606846976 (omega (arith, b .debit, b .full))) (sym (g .balance))
+  balance-reading = simp (le-leb (s .credit) 1152921504606846976 (omega (arith, b .credit, b .full)), le-leb (s .debit) 1152921504606846976 (omega (arith, b .debit, b .full))) (sym (g .balance))
 
-  pub settled-reads : Invariant t l → settledOf s ≡ sums.settled t (l .list)
+  pub settled-reading : settledOf s ≡ sums.settled t (l .list)
   unfolding settledOf
-  settled-reads q =
+  settled-reading =
       simp (le-leb (s .credit) 1152921504606846976 (omega (arith, b .credit, b .full)), le-leb (s .debit) 1152921504606846976 (omega (arith, b .debit, b .full)), le-leb (s .plan) 1152921504606846976 (omega (arith, b .plan, b .full)), le-leb (s .standing) 1152921504606846976 (omega (arith, b .standing, b .full)))
-      (sym (sym (settled-is t l q)
+      (sym (sym (settled-is t l (q .invariant))
       ∙ ap (λ (z : ℤ). z -ℤ pos (l .plan) +ℤ pos (sums.standing t (l .list))) (g .balance)
       ∙ ap (λ (n : ℕ). diff (s .credit) (s .debit) -ℤ pos n +ℤ pos (sums.standing t (l .list))) (sym (g .plan))
       ∙ ap (λ (n : ℕ). diff (s .credit) (s .debit) -ℤ pos (s .plan) +ℤ pos n) (sym (g .standing))
       ∙ ap (λ (z : ℤ). z +ℤ pos (s .standing)) (diff-sub (s .credit) (s .debit) (s .plan))
       ∙ diff-add (s .credit) (s .debit + s .plan) (s .standing)))
 
--- ---- so for every list that made them
+-- ---- so for every list that made the account
 
-module _ (s : Totals) (t : Terms) (es : List Event) (m : Made s t es) where
-  after : Stands t (accountAfter (fresh t) es) (ledgerAfter t opening es)
-  after = stands-after t (m .valid) es (fresh t) opening (refinement-holds t (m .valid) .opens)
+-- what is read off the totals of every account that stands for a ledger, is promised
+promised : {A : Type 0} (x : Totals → A) (f : Terms → Ledger → A) → ((t : Terms) (a : Account) (l : Ledger) → Stands t a l → x (a .totals) ≡ f t l) → (s : Totals) (r : A) → r ≡ x s → Reading s (x s) f r
+promised x f g s r e = record { totals = e; ledgers = λ a h t es m. e ∙ ap x (sym h) ∙ g t a (ledgerOf t es) (made-stands t es a m) }
 
-  sums-after : Sums t s (ledgerAfter t opening es)
-  sums-after = rw (m .totals) (after .agree .sums)
+pub is-balance : (s : Totals) (r : ℤ) → r ≡ balanceOf s → IsBalance s r
+is-balance = promised balanceOf _ balance-reading
 
-  bounds-after : Bounds s
-  bounds-after = rw (m .totals) (after .agree .bounds)
+pub is-plan : (s : Totals) → IsPlan s (s .plan)
+is-plan s = promised (λ (z : Totals). z .plan) _ (λ t a l q. q .agree .sums .plan) s (s .plan) refl
 
-  pub balance-made : balanceOf s ≡ ledgerAfter t opening es .balance
-  balance-made = balance-is t s (ledgerAfter t opening es) sums-after bounds-after
+pub is-service : (s : Totals) → IsService s (s .on)
+is-service s = promised (λ (z : Totals). z .on) _ (λ t a l q. q .agree .sums .on) s (s .on) refl
 
-  pub plan-made : s .plan ≡ ledgerAfter t opening es .plan
-  plan-made = sums-after .plan
+pub is-settled : (s : Totals) (r : ℤ) → r ≡ settledOf s → IsSettled s r
+is-settled = promised settledOf _ settled-reading
 
-  pub on-made : s .on ≡ ledgerAfter t opening es .on
-  on-made = sums-after .on
-
-  pub settled-made : settledOf s ≡ sums.settled t (ledgerAfter t opening es .list)
-  settled-made = settled-reads t s (ledgerAfter t opening es) sums-after bounds-after (after .invariant)
-
-  pub standing-made : s .standing ≡ sums.standing t (ledgerAfter t opening es .list)
-  standing-made = sums-after .standing
+pub is-estimates : (s : Totals) → IsEstimates s (s .standing)
+is-estimates s = promised (λ (z : Totals). z .standing) _ (λ t a l q. q .agree .sums .standing) s (s .standing) refl

@@ -1,19 +1,16 @@
--- What the reading calls answer.
+-- What the reading calls promise.
 use Prim.Native.Nat.{ℕ, _+_}
 use mathlib.Core.Path.{_≡_}
-use mathlib.Core.Bool.{Bool, true, cond, _&&_}
-use mathlib.Core.List.{List}
+use mathlib.Core.Bool.{Bool, cond, _&&_}
 use lib.Dec.{leb}
 use lib.IntN.{ℤ, pos, _-ℤ_}
-use Rattle.terms.specs.Terms.{validTerms}
 use Rattle.terms.specs.declared.Terms.{Terms}
-use Rattle.ledger.specs.declared.Event.{Event}
 use Rattle.ledger.specs.Rules.{Ledger}
-use Rattle.ledger.specs.Ledger.{opening, ledgerAfter}
-use Rattle.account.specs.Record.{fresh}
+use Rattle.ledger.specs.Sums as sums
 use Rattle.moves.specs.Moves.{most}
 use Rattle.moves.specs.declared.Totals.{Totals}
-use Rattle.posting.specs.Posting.{accountAfter}
+use Rattle.account.specs.declared.Account.{Account}
+use Rattle.refinement.specs.Lists.{IsLedgers}
 
 -- by the totals alone; 0 where they are past any account's reach
 unfoldable pub balanceOf : Totals → ℤ
@@ -26,11 +23,25 @@ settledOf s =
     (pos (s .credit + s .standing) -ℤ pos (s .debit + s .plan))
     (pos 0)
 
--- The totals are those of the account that this software made of the terms and these events, and the ledger is fed the same.
-pub record Made (s : Totals) (t : Terms) (es : List Event) : Type 0 where
-  pub valid : validTerms t ≡ true
-  pub totals : s ≡ accountAfter (fresh t) es .totals
+-- A reading call promises x of the totals s, and in the ledger's terms: what f reads off the ledger, for every list of events that made an
+-- account with these totals.
+pub record Reading {A : Type 0} (s : Totals) (x : A) (f : Terms → Ledger → A) (r : A) : Type 0 where
+  pub totals : r ≡ x
+  pub ledgers : (a : Account) → a .totals ≡ s → IsLedgers a f r
 
--- x is what f reads off the ledger, for every list of events that made the account
-abbrev pub IsLedgers : {A : Type 0} → Totals → (Terms → Ledger → A) → A → Type 0
-IsLedgers s f x = (t : Terms) (es : List Event) → Made s t es → x ≡ f t (ledgerAfter t opening es)
+-- B
+abbrev pub IsBalance : Totals → ℤ → Type 0
+IsBalance s r = Reading s (balanceOf s) (λ (t : Terms) (l : Ledger). l .balance) r
+
+-- R
+abbrev pub IsPlan : Totals → ℕ → Type 0
+IsPlan s r = Reading s (s .plan) (λ (t : Terms) (l : Ledger). l .plan) r
+
+abbrev pub IsService : Totals → Bool → Type 0
+IsService s r = Reading s (s .on) (λ (t : Terms) (l : Ledger). l .on) r
+
+abbrev pub IsSettled : Totals → ℤ → Type 0
+IsSettled s r = Reading s (settledOf s) (λ (t : Terms) (l : Ledger). sums.settled t (l .list)) r
+
+abbrev pub IsEstimates : Totals → ℕ → Type 0
+IsEstimates s r = Reading s (s .standing) (λ (t : Terms) (l : Ledger). sums.standing t (l .list)) r

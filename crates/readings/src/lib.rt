@@ -4,10 +4,7 @@ use moves::Totals;
 ghost use mathlib.Core.Path.{_≡_};
 ghost use Prim.Native.Nat.{_≤_};
 ghost use lib.IntN.{pos, _-ℤ_};
-ghost use Rattle.terms.specs.declared.Terms.{Terms};
-ghost use Rattle.ledger.specs.Rules.{Ledger};
-ghost use Rattle.ledger.specs.Sums as sums;
-ghost use Rattle.readings.specs.Readings.{balanceOf, settledOf, IsLedgers};
+ghost use Rattle.readings.specs.Readings.{IsBalance, IsPlan, IsService, IsSettled, IsEstimates};
 
 const MOST: u64 = 1152921504606846976;
 
@@ -20,8 +17,7 @@ fn signed(up: u64, down: u64) -> i64
 
 // The balance B, in cents.
 pub fn balance(s: Totals) -> i64
-    ensures { λ r. ⌜ r ≡ balanceOf s ⌝ }
-    ensures { λ r. ⌜ IsLedgers s (λ (t : Terms) (l : Ledger). l .balance) r ⌝ }
+    ensures { λ r. ⌜ IsBalance s r ⌝ }
 {
     if s.credit > MOST {
         return 0;
@@ -34,24 +30,21 @@ pub fn balance(s: Totals) -> i64
 
 // The unpaid plan R, in cents.
 pub fn plan(s: Totals) -> u64
-    ensures { λ r. ⌜ r ≡ s .plan ⌝ }
-    ensures { λ r. ⌜ IsLedgers s (λ (t : Terms) (l : Ledger). l .plan) r ⌝ }
+    ensures { λ r. ⌜ IsPlan s r ⌝ }
 {
     s.plan
 }
 
 // Whether service is on.
 pub fn service(s: Totals) -> bool
-    ensures { λ r. ⌜ r ≡ s .on ⌝ }
-    ensures { λ r. ⌜ IsLedgers s (λ (t : Terms) (l : Ledger). l .on) r ⌝ }
+    ensures { λ r. ⌜ IsService s r ⌝ }
 {
     s.on
 }
 
 // The settled amount: payments kept and credits, less charges and metered usage, in cents.
 pub fn settled(s: Totals) -> i64
-    ensures { λ r. ⌜ r ≡ settledOf s ⌝ }
-    ensures { λ r. ⌜ IsLedgers s (λ (t : Terms) (l : Ledger). sums.settled t (l .list)) r ⌝ }
+    ensures { λ r. ⌜ IsSettled s r ⌝ }
 {
     if s.credit > MOST {
         return 0;
@@ -70,8 +63,7 @@ pub fn settled(s: Totals) -> i64
 
 // The cost of the standing estimates, in cents.
 pub fn estimates(s: Totals) -> u64
-    ensures { λ r. ⌜ r ≡ s .standing ⌝ }
-    ensures { λ r. ⌜ IsLedgers s (λ (t : Terms) (l : Ledger). sums.standing t (l .list)) r ⌝ }
+    ensures { λ r. ⌜ IsEstimates s r ⌝ }
 {
     s.standing
 }

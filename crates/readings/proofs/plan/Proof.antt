@@ -1,10 +1,9 @@
-use mathlib.Core.Path.{refl}
-use Rattle.readings.proofs.After.{plan-made}
+use Rattle.readings.proofs.After.{is-plan}
 use Rattle.readings.proofs.plan.Statement.{statement}
 use Rattle.readings.proofs.plan.Tie as tie
 
 returns : tie.Need-returns
-returns c = (refl, plan-made (c .args .s))
+returns c = is-plan (c .args .s)
 
 pub plan-spec : {M : Type 1} → statement M
 plan-spec = tie.close (tie.spec returns)

@@ -1,10 +1,9 @@
-use mathlib.Core.Path.{refl}
-use Rattle.readings.proofs.After.{on-made}
+use Rattle.readings.proofs.After.{is-service}
 use Rattle.readings.proofs.service.Statement.{statement}
 use Rattle.readings.proofs.service.Tie as tie
 
 returns : tie.Need-returns
-returns c = (refl, on-made (c .args .s))
+returns c = is-service (c .args .s)
 
 pub service-spec : {M : Type 1} → statement M
 service-spec = tie.close (tie.spec returns)
