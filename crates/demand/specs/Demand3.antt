@@ -1,49 +1,76 @@
--- Demand 3 of the minutes, for the terms t.
+-- Demand 3 of the minutes: one claim about every list of calls and whatever is seen of it.
 use Prim.Native.Nat.{ℕ}
 use mathlib.Core.Path.{_≡_}
-use mathlib.Core.Bool.{Bool, true, false}
-use mathlib.Core.List.{List}
+use mathlib.Core.Bool.{true, false}
+use mathlib.Core.List.{List, [], _∷_, _++_}
 use mathlib.Core.Logic.{_↔_}
-use lib.IntN.{ℤ, pos, _+ℤ_, _-ℤ_}
+use lib.IntN.{pos, _+ℤ_, _-ℤ_}
+use lib.ListN.{length, getD}
 use lib.Signed.{ltZ}
 use Rattle.terms.specs.declared.Terms.{Terms}
 use Rattle.ledger.specs.declared.Event.{Event}
+use Rattle.ledger.specs.declared.Answer.{Answer}
 use Rattle.ledger.specs.Event.{isDisconnect}
 use Rattle.ledger.specs.Entries.{warned, barred, usageDay, estimateCost}
 use Rattle.ledger.specs.Rules.{Ledger, dayRefused, isFull}
-use Rattle.ledger.specs.Sums.{settled, standing}
-use Rattle.ledger.specs.Ledger.{opening, ledgerStep, ledgerAfter}
-use Rattle.account.specs.Record.{fresh}
-use Rattle.demand.specs.Calls.{Call, Seen, Runs, ledgerSeen, ledgerCalls, eventsOf}
+use Rattle.ledger.specs.Sums as sums
+use Rattle.ledger.specs.Ledger.{opening, ledgerAfter}
+use Rattle.ledger.specs.Calls.{Call, Back, answered, written, fed, ledgerBack}
+use Rattle.demand.specs.Calls.{Seen, Runs}
 
--- the ledger after a list of events
-abbrev pub after : Terms → List Event → Ledger
-after t es = ledgerAfter t opening es
+-- what the ledger shows after a call
+abbrev pub shows : Terms → Ledger → Back → Seen
+shows t l r = record {
+  back = r;
+  balance = l .balance;
+  plan = l .plan;
+  on = l .on;
+  settled = sums.settled t (l .list);
+  standing = sums.standing t (l .list);
+}
+
+-- the codes that a call hands back, one an event: the answer's own, or the bytes of the buffer
+abbrev pub codesIn : Back → List ℕ
+codesIn (answered r) = r .code ∷ []
+codesIn (written r bytes) = bytes
+
+-- "service is on, the balance is below the cutoff, an accepted warning is one to seven days old, and the day is not barred"
+abbrev pub MayCut : Terms → Ledger → Event → Type 0
+MayCut t l e =
+    (l .on ≡ true)
+    × (ltZ (l .balance) (pos (t .cutoff)) ≡ true)
+    × (warned (e .day) (l .list) ≡ true)
+    × (barred t (e .day) (l .list) ≡ false)
+
+-- Of one call c, of which v is seen. `before` is the ledger just before it; the ledger after it is fed the call's events.
+pub record CallHolds (t : Terms) (before : Ledger) (c : Call) (v : Seen) : Type 0 where
+  -- "Every code and value returned, and the balance, unpaid plan and service after it, are those of document 01's ledger for that list. The
+  -- settled amount is .. added up from the events the ledger accepted."
+  pub seen : v ≡ shows t (ledgerAfter t before (fed c)) (ledgerBack t before c)
+  -- "The balance less the unpaid plan .. is otherwise lower by exactly what those estimates cost."
+  pub identity : v .balance -ℤ pos (v .plan) +ℤ pos (v .standing) ≡ v .settled
+  -- "equals it exactly when no usage day stands on an estimate costing more than zero"
+  pub exactly : (v .balance -ℤ pos (v .plan) ≡ v .settled) ↔ ((u : ℕ) → estimateCost (usageDay t (ledgerAfter t before (fed c) .list) u) ≡ 0)
+  -- "A disconnect request in the list that passes the day and fullness checks is granted exactly when, just before it, .."; es are the events
+  -- of the same call before it.
+  pub disconnects : (es : List Event) (e : Event) (rest : List Event)
+      → fed c ≡ es ++ (e ∷ rest)
+      → isDisconnect e ≡ true
+      → dayRefused (ledgerAfter t before es) e ≡ false
+      → isFull (ledgerAfter t before es) ≡ false
+      → (getD (codesIn (v .back)) (length es) 16 ≡ 0)
+      ↔ MayCut t (ledgerAfter t before es) e
+
+-- Of every call in turn, from a ledger l that was fed the events es of the calls before: "fed the terms that made the account, then every event
+-- in the order of posting".
+abbrev pub CallsHold : Terms → Ledger → List Event → List Call → List Seen → Type 0
+CallsHold t l es [] [] = Unit
+CallsHold t l es [] (v ∷ vs) = ⊥
+CallsHold t l es (c ∷ cs) [] = ⊥
+CallsHold t l es (c ∷ cs) (v ∷ vs) = CallHolds t (ledgerAfter t l es) c v × CallsHold t l (es ++ fed c) cs vs
 
 pub record Demand3 (t : Terms) : Type 0 where
-  -- "every list of events of any kinds, refused ones included, posted from a fresh account singly, in rows or both. Every code and value
-  -- returned, and the balance, unpaid plan and service after it, are those of document 01's ledger for that list": whatever the calls'
-  -- promises let be seen of a list of calls is what the ledger shows, and that they do let be seen.
-  pub answers : (cs : List Call) (vs : List Seen) → Runs (fresh t) cs vs → vs ≡ ledgerSeen t opening cs
-  pub runs : (cs : List Call) → Runs (fresh t) cs (ledgerSeen t opening cs)
-  -- "In demand 3's list each posting call gets the account as the call before left it": the ledger after the calls is the one fed their
-  -- events, to which a row longer than its buffer adds none.
-  pub list : (cs : List Call) → ledgerCalls t opening cs ≡ after t (eventsOf cs)
-  -- "The balance less the unpaid plan ... is otherwise lower by exactly what those estimates cost."
-  pub identity : (es : List Event)
-      → after t es .balance -ℤ pos (after t es .plan) +ℤ pos (standing t (after t es .list)) ≡ settled t (after t es .list)
-  -- "equals it exactly when no usage day stands on an estimate costing more than zero"
-  pub exactly : (es : List Event)
-      → (after t es .balance -ℤ pos (after t es .plan) ≡ settled t (after t es .list))
-      ↔ ((u : ℕ) → estimateCost (usageDay t (after t es .list) u) ≡ 0)
-  -- "A disconnect request in the list that passes the day and fullness checks is granted exactly when, just before it, service is on, the
-  -- balance is below the cutoff, an accepted warning is one to seven days old, and the day is not barred."
-  pub disconnects : (es : List Event) (e : Event)
-      → isDisconnect e ≡ true
-      → dayRefused (after t es) e ≡ false
-      → isFull (after t es) ≡ false
-      → (ledgerStep t (after t es) e .answer .code ≡ 0)
-      ↔ ((after t es .on ≡ true)
-      × (ltZ (after t es .balance) (pos (t .cutoff)) ≡ true)
-      × (warned (e .day) (after t es .list) ≡ true)
-      × (barred t (e .day) (after t es .list) ≡ false))
+  -- "This holds for every list of events of any kinds .., refused ones included, posted from a fresh account singly, in rows or both."
+  pub every : (cs : List Call) (vs : List Seen) → Runs t cs vs → CallsHold t opening [] cs vs
+  -- and of every list something is seen: the promises contradict each other nowhere
+  pub some : (cs : List Call) → (vs : List Seen) × Runs t cs vs

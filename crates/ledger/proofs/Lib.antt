@@ -6,3 +6,4 @@ pub mod Back
 pub mod Identity
 pub mod Disconnect
 pub mod Standing
+pub mod Rows
