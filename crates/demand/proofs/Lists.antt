@@ -117,8 +117,7 @@ calls-hold t l es [] (v ∷ vs) a s q = absurd q
 calls-hold t l es (c ∷ cs) [] a s q = absurd q
 calls-hold t l es (c ∷ cs) (v ∷ vs) a s (b, p, r, q) =
     let before : Ledger = ledgerAfter t l es in
-    let f : Follows t a before s c (v .back) b = follows t a before s c (v .back) b p in
-    (
+    let f : Follows t a before s c (v .back) b = follows t a before s c (v .back) b p in (
       call-holds t before c v (f .stands .invariant) (seen-is t b (ledgerAfter t before (fed c)) (f .stands) v (ledgerBack t before c) (f .back) r),
       calls-hold t l (es ++ fed c) cs vs b (rw (after-both t es (fed c) l) (f .stands)) q,
     )
