@@ -16,18 +16,17 @@ use Rattle.terms.specs.declared.Terms.{Terms}
 use Rattle.ledger.specs.declared.Event.{Event}
 use Rattle.ledger.specs.Entries.{Entry, payments, payment, reversed, UsageDay, blank, estimated, metered, usageDay, estimateCost}
 use Rattle.ledger.specs.Rules.{Ledger}
-use Rattle.ledger.specs.Ledger.{opening, ledgerAfter}
+use Rattle.ledger.specs.Ledger.{ledgerOf}
 use Rattle.ledger.specs.Months.{monthOf, inMonth, hasDays, paymentsIn, isReversed, usageIn, meteredWh, meteredCost, estimatedWh, chargesIn, ledgerSummary}
 use Rattle.ledger.proofs.Cases.{decide, both}
-use Rattle.account.specs.Record.{costHeld, fresh}
+use Rattle.account.specs.Record.{costHeld}
 use Rattle.moves.specs.declared.Usage.{Usage}
 use Rattle.moves.specs.declared.Payment.{Payment}
 use Rattle.account.specs.declared.Account.{Account}
-use Rattle.posting.specs.Posting.{accountAfter}
-use Rattle.refinement.specs.Agree.{Agree, Stands, usageOf, paymentOf}
-use Rattle.refinement.proofs.Refines.{refinement-holds}
-use Rattle.readings.proofs.After.{stands-after}
-use Rattle.months.specs.Summary.{inMonthOf, paymentsBy, one, amountOf, whMetered, costMetered, whEstimated, usageBy, summaryBy, summaryOf, Made}
+use Rattle.refinement.specs.Lists.{Made}
+use Rattle.refinement.specs.Agree.{Agree, usageOf, paymentOf}
+use Rattle.refinement.proofs.Lists.{made-stands}
+use Rattle.months.specs.Summary.{inMonthOf, paymentsBy, one, amountOf, whMetered, costMetered, whEstimated, usageBy, summaryBy, summaryOf}
 use Rattle.months.proofs.Sums.{total-same, any-same, any-none}
 use Rattle.months.proofs.Numbers.{by-number, Dated, dated-after}
 
@@ -109,7 +108,5 @@ module _ (t : Terms) (m : ℕ) (o : opens (t .opened) ≡ true) where
         (λ f. rw f))
 
 -- The summary of an account that this software made is the ledger's of the same events.
-pub summary-made : (a : Account) (m : ℕ) (t : Terms) (es : List Event) → Made a t es → summaryOf a m ≡ ledgerSummary t (ledgerAfter t opening es .list) m
-summary-made a m t es h =
-    let s : Stands t (accountAfter (fresh t) es) (ledgerAfter t opening es) = stands-after t (h .valid) es (fresh t) opening (refinement-holds t (h .valid) .opens) in
-    rw (h .account) (summary-is t m (valid-opens t (h .valid)) (accountAfter (fresh t) es) (ledgerAfter t opening es) (s .agree) (dated-after t es))
+pub summary-made : (a : Account) (m : ℕ) (t : Terms) (es : List Event) → Made t es a → summaryOf a m ≡ ledgerSummary t (ledgerOf t es .list) m
+summary-made a m t es h = summary-is t m (valid-opens t (h .valid)) a (ledgerOf t es) (made-stands t es a h .agree) (dated-after t es)

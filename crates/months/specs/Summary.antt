@@ -1,29 +1,22 @@
 -- The month summary off the account record.
 use Prim.Native.Nat.{ℕ, _+_, _*_, min}
-use mathlib.Core.Path.{_≡_}
-use mathlib.Core.Bool.{Bool, true, cond, not, _&&_}
+use mathlib.Core.Bool.{Bool, cond, not, _&&_}
 use mathlib.Core.List.{List, [], _∷_}
 use lib.ListN.{getD}
 use lib.Dec.{leb, eqb}
 use Rattle.calendar.specs.declared.Date.{Date}
 use Rattle.calendar.specs.Calendar.{dateOn, monthFrom, isDay, total}
 use Rattle.calendar.specs.Days.{anyDay}
-use Rattle.terms.specs.Terms.{validTerms}
-use Rattle.terms.specs.declared.Terms.{Terms}
-use Rattle.ledger.specs.declared.Event.{Event}
 use Rattle.ledger.specs.declared.Counted.{Counted}
 use Rattle.ledger.specs.declared.Used.{Used}
 use Rattle.ledger.specs.declared.Summary.{Summary}
-use Rattle.ledger.specs.Rules.{Ledger}
-use Rattle.ledger.specs.Ledger.{opening, ledgerAfter}
 use Rattle.ledger.specs.Months.{isReversed, averageOf, noSummary}
-use Rattle.account.specs.Record.{blankDay, noPayment, costHeld, fresh}
+use Rattle.account.specs.Record.{blankDay, noPayment, costHeld}
 use Rattle.moves.specs.declared.Usage.{Usage}
 use Rattle.moves.specs.declared.Usage.the-variants.{Blank, Estimated, Metered}
 use Rattle.moves.specs.declared.Day.{Day}
 use Rattle.moves.specs.declared.Payment.{Payment}
 use Rattle.account.specs.declared.Account.{Account}
-use Rattle.posting.specs.Posting.{accountAfter}
 
 -- day d is one of the account's days and lies in month m
 unfoldable pub inMonthOf : Date → ℕ → ℕ → Bool
@@ -115,14 +108,3 @@ summaryBy q a m =
 
 abbrev pub summaryOf : Account → ℕ → Summary
 summaryOf a m = summaryBy (inMonthOf (a .terms .opened) m) a m
-
--- ---- in the ledger's terms
-
--- The account is the one that this software made of the terms and these events.
-pub record Made (a : Account) (t : Terms) (es : List Event) : Type 0 where
-  pub valid : validTerms t ≡ true
-  pub account : a ≡ accountAfter (fresh t) es
-
--- x is what f reads off the ledger, for every list of events that made the account
-abbrev pub IsLedgers : {A : Type 0} → Account → (Terms → Ledger → A) → A → Type 0
-IsLedgers a f x = (t : Terms) (es : List Event) → Made a t es → x ≡ f t (ledgerAfter t opening es)

@@ -12,7 +12,8 @@ ghost use Prim.Native.Nat.{ℕ, _+_, _≤_, min};
 ghost use Rattle.terms.specs.declared.Terms.{Terms};
 ghost use Rattle.ledger.specs.Rules.{Ledger};
 ghost use Rattle.ledger.specs.Months.{noSummary, averageOf, ledgerSummary};
-ghost use Rattle.months.specs.Summary.{chargesOf, summaryOf, IsLedgers};
+ghost use Rattle.refinement.specs.Lists.{IsLedgers};
+ghost use Rattle.months.specs.Summary.{chargesOf, summaryOf};
 ghost use Rattle.months.specs.Work.{span, PaidTo, UsedTo, withAmount, withPayment, paidBy, withUsage, withDay, usedBy, figuresOf};
 
 // The payments kept and those reversed.

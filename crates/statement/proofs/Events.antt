@@ -8,8 +8,7 @@ use lib.ListN.{length, drop}
 use Rattle.ledger.specs.declared.Event.{Event}
 use Rattle.account.specs.Head.{stepOf}
 use Rattle.account.specs.declared.Account.{Account}
-use Rattle.account.specs.declared.Posted.{Posted}
-use Rattle.posting.specs.Posting.{accountAfter}
+use Rattle.refinement.specs.Lists.{accountAfter}
 use Rattle.scanner.specs.Scanner.{got, broken}
 use Rattle.text.specs.Text.{readEvent}
 use Rattle.statement.specs.Statement.{eventsIn}
@@ -37,13 +36,13 @@ pub begins : (text : List ℕ) (start : ℕ) (a : Account) → start ≤ length 
 begins text start a h = record { inside = h; fuel = length text - start; enough = omega arith; same = refl }
 
 module _ (text : List ℕ) (start : ℕ) (a b : Account) (at : ℕ) (g : Going text start a b at) where
-  pub turns : (e : Event) (next : ℕ) (p : Posted) → readEvent (drop at text) ≡ got e (drop next text) → at + 14 ≤ next → next ≤ length text → p ≡ stepOf b e → Going text start a (p .account) next
+  pub turns : (e : Event) (next : ℕ) (c : Account) → readEvent (drop at text) ≡ got e (drop next text) → at + 14 ≤ next → next ≤ length text → c ≡ stepOf b e .account → Going text start a c next
   unfolding accountAfter
-  turns e next p r far within ep = record {
+  turns e next c r far within ec = record {
     inside = within;
     fuel = g .fuel - 1;
     enough = omega (arith, g .enough);
-    same = ap (λ (x : Posted). accountAfter (x .account) (eventsIn (suc (g .fuel - 1)) (drop next text))) ep
+    same = ap (λ (x : Account). accountAfter x (eventsIn (suc (g .fuel - 1)) (drop next text))) ec
         ∙ sym (ap (accountAfter b) (events-got (g .fuel) (drop at text) (drop next text) e r ∙ ap (λ (k : ℕ). e ∷ eventsIn k (drop next text)) left))
         ∙ g .same;
   }

@@ -8,13 +8,13 @@ use lib.ListN.{length, drop, length-drop}
 use Rattle.terms.specs.Terms.{validTerms}
 use Rattle.terms.specs.declared.Terms.{Terms}
 use Rattle.ledger.specs.declared.Event.{Event}
-use Rattle.ledger.specs.Ledger.{opening, ledgerAfter}
+use Rattle.ledger.specs.Ledger.{ledgerOf}
 use Rattle.ledger.specs.Months.{ledgerSummary}
 use Rattle.account.specs.Head.{openOf}
 use Rattle.account.specs.declared.Opened.{Opened}
 use Rattle.account.specs.declared.Account.{Account}
-use Rattle.posting.specs.Posting.{accountAfter}
-use Rattle.months.specs.Summary.{summaryOf, Made}
+use Rattle.refinement.specs.Lists.{accountAfter, Made}
+use Rattle.months.specs.Summary.{summaryOf}
 use Rattle.months.proofs.Agrees.{summary-made}
 use Rattle.scanner.specs.Scanner.{got}
 use Rattle.printing.specs.Printing.{Wrote}
@@ -33,6 +33,6 @@ module _ (t : Terms) (o : Opened) (is : o ≡ openOf t) {b after : List ℕ} {r 
   opened text start a e p w =
       let v : validTerms t ≡ true = valid t o is e in
       let es : List Event = eventsIn (suc (length text - start)) (drop start text) in
-      let made : Made a t es = record { valid = v; account = p ∙ ap (λ (q : Opened). accountAfter (q .account) es) is } in
-      let lines = same-lines (λ (m : ℕ). summaryOf a m) (ledgerSummary t (ledgerAfter t opening es .list)) (λ m. summary-made a m t es made) 15 in
+      let made : Made t es a = record { valid = v; account = p ∙ ap (λ (q : Opened). accountAfter (q .account) es) is } in
+      let lines = same-lines (λ (m : ℕ). summaryOf a m) (ledgerSummary t (ledgerOf t es .list)) (λ m. summary-made a m t es made) 15 in
       simp (v, length-drop) (rw lines at w)

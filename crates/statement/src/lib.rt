@@ -1,5 +1,5 @@
 // What `summary` prints for a text: its month figures, put whole into a lent buffer.
-// It uses the event text, the account's step, the month's figures and the printing. Its promise cites specs/Statement.antt.
+// It uses the event text, the posting call, the month's figures and the printing. Its promise cites specs/Statement.antt.
 use account::Account;
 use ledger::Summary;
 use printing::put_bytes;
@@ -13,7 +13,7 @@ ghost use Prim.Native.Nat.{ℕ, suc, _+_, _-_, _≤_};
 ghost use lib.ListN.{length, drop};
 ghost use Rattle.scanner.specs.Scanner.{got};
 ghost use Rattle.printing.specs.Printing.{Wrote};
-ghost use Rattle.posting.specs.Posting.{accountAfter};
+ghost use Rattle.refinement.specs.Lists.{accountAfter};
 ghost use Rattle.months.specs.Summary.{summaryOf};
 ghost use Rattle.transcript.specs.Transcript.{termsLine, byTerms};
 ghost use Rattle.statement.specs.Statement.{pair, firstPart, usagePart, lastPart, summaryLine, monthLines, eventsIn, allMonths, Written};
@@ -149,7 +149,7 @@ fn post_events(text: &[u8], start: usize, a: Account) -> Account
         let read = text::read_event(text, at);
         match read {
             EventRead::Got { event, next } => {
-                let posted = account::step(b, event);
+                let posted = posting::post_by_value(b, event);
                 b = posted.account;
                 at = next;
             }

@@ -19,8 +19,8 @@ use Rattle.account.specs.Head.{stepOf, openOf}
 use Rattle.account.specs.declared.Opened.{Opened}
 use Rattle.account.specs.declared.Account.{Account}
 use Rattle.refinement.specs.Agree.{Stands, Refinement}
-use Rattle.refinement.proofs.Refines.{refinement-holds}
-use Rattle.readings.proofs.After.{balance-is, settled-reads}
+use Rattle.refinement.proofs.Lists.{refinement-holds}
+use Rattle.readings.proofs.After.{balance-reading, settled-reading}
 use Rattle.scanner.specs.Scanner.{Read, got, broken}
 use Rattle.text.specs.Text.{readTerms, readEvent}
 use Rattle.transcript.specs.Transcript.{line, closing, eventLines, termsLine, byTerms, allLines, transcript}
@@ -35,10 +35,10 @@ use Rattle.transcript.proofs.Turn.{by-read, lines-got, lines-broken}
 
 module _ (t : Terms) (a : Account) (l : Ledger) (s : Stands t a l) where
   closing-is : headClosing (a .totals) ≡ closing t l
-  closing-is = rw (settled-reads t (a .totals) l (s .agree .sums) (s .agree .bounds) (s .invariant), s .agree .sums .standing)
+  closing-is = rw (settled-reading t a l s, s .agree .sums .standing)
 
   line-is : (n code value : ℕ) → headLine n code value (a .totals) ≡ line n code value (l .balance) (l .plan)
-  line-is n code value = rw (balance-is t (a .totals) l (s .agree .sums) (s .agree .bounds), s .agree .sums .plan)
+  line-is n code value = rw (balance-reading t a l s, s .agree .sums .plan)
 
 -- ---- the ledger's lines, by what stands there
 

@@ -42,11 +42,11 @@ returns c =
     let s = p .before in
     let b = s .before in
     let t = b .before .totals-of .ensures in
-    let balance = toZ-ofZ {w = w64} (sfits-of (b .balance .ok)) ∙ b .balance .ensures .0 ∙ ap balanceOf t in
-    let settled = toZ-ofZ {w = w64} (sfits-of (s .settled .ok)) ∙ s .settled .ensures .0 ∙ ap settledOf t in
-    let plan = p .plan .ensures .0 ∙ ap (λ (x : Totals). x .plan) t in
-    let estimates = e .estimates .ensures .0 ∙ ap (λ (x : Totals). x .standing) t in
-    let service = c .flag .ensures ∙ ap (λ (x : Bool). cond x 1 0) (v .service .ensures .0 ∙ ap (λ (x : Totals). x .on) t) in
+    let balance = toZ-ofZ {w = w64} (sfits-of (b .balance .ok)) ∙ b .balance .ensures .totals ∙ ap balanceOf t in
+    let settled = toZ-ofZ {w = w64} (sfits-of (s .settled .ok)) ∙ s .settled .ensures .totals ∙ ap settledOf t in
+    let plan = p .plan .ensures .totals ∙ ap (λ (x : Totals). x .plan) t in
+    let estimates = e .estimates .ensures .totals ∙ ap (λ (x : Totals). x .standing) t in
+    let service = c .flag .ensures ∙ ap (λ (x : Bool). cond x 1 0) (v .service .ensures .totals ∙ ap (λ (x : Totals). x .on) t) in
     λ k. record { balance = balance k; settled = settled k; plan = plan k; estimates = estimates k; service = service k }
 
 pub readings-spec : {M : Type 1} → statement M

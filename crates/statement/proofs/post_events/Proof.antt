@@ -30,8 +30,8 @@ read-event-requires c κs = search needs
 enum-known-read : tie.Need-enum-known-read Inv-loop μ-loop
 enum-known-read c = search needs
 
-step-requires : tie.Need-step-requires Inv-loop μ-loop
-step-requires c κs = search needs
+post-by-value-requires : tie.Need-post-by-value-requires Inv-loop μ-loop
+post-by-value-requires c κs = search needs
 
 loop-less : tie.Need-loop-less Inv-loop μ-loop
 loop-less c = let e = read-as (c .before .before .before) in omega (arith, e .1, e .2)
@@ -39,7 +39,7 @@ loop-less c = let e = read-as (c .before .before .before) in omega (arith, e .1,
 loop-again : tie.Need-loop-again Inv-loop μ-loop
 loop-again c =
     let e = read-as (c .before .before .before) in
-    turns _ _ _ _ _ (c .before .before .before .before .before .before .loop .inv) _ _ _ (e .0) (e .1) (e .2) (c .before .step .ensures)
+    turns _ _ _ _ _ (c .before .before .before .before .before .before .loop .inv) _ _ _ (e .0) (e .1) (e .2) (c .before .post-by-value .ensures .account)
 
 enum-told : tie.Need-enum-told Inv-loop μ-loop
 enum-told c = search needs
@@ -56,7 +56,7 @@ post-events-spec =
     loop-holds
     read-event-requires
     enum-known-read
-    step-requires
+    post-by-value-requires
     loop-less
     loop-again
     enum-told

@@ -43,7 +43,7 @@ returns c =
     let b = c .before .before .before .before .before .before .before .before .before .before .before .before .before .before .before .before .settled in
     let p = c .before .before .before .before .before .before .before .before .before .before .before .before .before .before .before .estimates in
     let sum : Puts _ _ (wSettled ++ signed (b .result)) _ _ = rw (back (b .result) (record { sfits = b .ok })) at (c .before .before .before .before .before .before .before .before .before .before .before .before .put-sum .ensures) in
-    rw (sym (b .ensures .0), sym (p .ensures .0))
+    rw (sym (b .ensures .totals), sym (p .ensures .totals))
     (field-then wSettled (signed (b .result)) 20 (length-signed (b .result) (b .ok)) sum 32 (c .before .before .before .before .before .before .before .before .before .before .before .before .before .before .before .before .before .before .pre) (λ h1.
     field-then wEstimates (decimal (p .result)) 20 (length-decimal (p .result) (p .ok)) (c .before .before .before .before .before .before .before .put-field .ensures) 1 h1 (λ h2.
     word-last (c .before .before .put-bytes .ensures) h2)) .0)

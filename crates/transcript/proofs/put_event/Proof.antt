@@ -63,7 +63,7 @@ returns c =
     let b = c .before .before .before .before .before .before .before .before .before .before .before .before .before .before .before .before .before .before .before .before .before .before .before .before .before .before .before .before .before .before .before .balance in
     let p = c .before .before .before .before .before .before .before .before .before .before .before .before .before .before .before .before .before .before .before .before .before .before .before .before .before .before .before .before .before .before .plan in
     let sum : Puts _ _ (wBalance ++ signed (b .result)) _ _ = rw (back (b .result) (record { sfits = b .ok })) at (c .before .before .before .before .before .before .before .before .before .before .before .before .put-sum .ensures) in
-    rw (sym (b .ensures .0), sym (p .ensures .0))
+    rw (sym (b .ensures .totals), sym (p .ensures .totals))
     (field-then wN (decimal (a .n)) 20 (length-decimal (a .n) (f .n .fits)) (c .before .before .before .before .before .before .before .before .before .before .before .before .before .before .before .before .before .before .before .before .before .before .before .before .before .before .before .put-field .ensures) 92 (c .before .before .before .before .before .before .before .before .before .before .before .before .before .before .before .before .before .before .before .before .before .before .before .before .before .before .before .before .before .before .before .before .before .pre) (λ h1.
     field-then wCode (decimal (a .code)) 3 (length-byte (a .code) (f .code .fits)) (c .before .before .before .before .before .before .before .before .before .before .before .before .before .before .before .before .before .before .before .before .before .before .put-field2 .ensures) 83 h1 (λ h2.
     field-then wValue (decimal (a .value)) 20 (length-decimal (a .value) (f .value .fits)) (c .before .before .before .before .before .before .before .before .before .before .before .before .before .before .before .before .before .put-field3 .ensures) 56 h2 (λ h3.
