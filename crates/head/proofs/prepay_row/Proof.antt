@@ -68,7 +68,7 @@ use Rattle.image.proofs.image_after.Symbol as image-after-def
 use Rattle.image.proofs.image_after.Symbol.{name as #image·image-after}
 use Rattle.image.proofs.image_after.Met as image-after-thm
 use Rattle.head.specs.Interface.{IsRow}
-use Rattle.head.proofs.Lent.{IsT, typedT, account-in, account-out}
+use Rattle.posting.proofs.Lent.{IsT, typedT, account-in, account-out}
 use Rattle.head.proofs.Walks.{valI, IsI, typedI, opens-image, closes-image, asks}
 use Rattle.head.proofs.prepay_row.Key.{name as #prepay-row}
 use Rattle.head.proofs.prepay_row as f
@@ -79,7 +79,7 @@ abbrev byte : Ty
 byte = tyInt w8
 
 -- what the three calls promise makes what is promised here: a is the image's account, b the account after the row, and k its image
-row-is : (h k : Image) (a b : Account) (es : List Event) (cs ys : List ℕ) (r : ℕ) → a ≡ accountOf h → posting.IsRow (rowOf a es cs) b ys r → k ≡ imageAfter h b → IsRow h (rowOf (accountOf h) es cs) k ys r
+row-is : (h k : Image) (a b : Account) (es : List Event) (cs ys : List ℕ) (r : ℕ) → a ≡ accountOf h → posting.PostsRow a es cs b ys r → k ≡ imageAfter h b → IsRow h (rowOf (accountOf h) es cs) k ys r
 row-is h k a b es cs ys r is-a row is-k =
     let same : rowOf a es cs ≡ rowOf (accountOf h) es cs = ap (λ (d : Account). rowOf d es cs) is-a in
     record {
@@ -192,8 +192,8 @@ module _ {M : Type 1} (𝓤 : URA M) (H : Heap 𝓤) (A : Atoms 𝓤) (W : Given
         -- [the call's pre; the lender's part; the image's cell; the open borrow; obs; auth; _11, from 6; …; _6, at 16; …; the rest of _5; _4, at 19; …; _0, at 27; …; what the row owns]
         calls-at ! fm (Post-row 𝓤 H A at-mem run) known-row (to a α l₅ γ) (and-then ! (load ! (from ! (stop !)) (look ! 12 refl)) (and-then ! (load ! (from ! (stop !)) (look ! 23 refl)) (and-then ! (load ! (from ! (stop !)) (look ! 8 refl)) (no-more !)))) (λ v.
         use1 W (later (some (λ (r : ℕ). (Tokens α ⊛ ‵ (u8 .own r (v ∷ []))) ⊛ raw (ensured 𝓤 H A g.ended (g.clauses 𝓤 H A at-mem run) (α ∷ [], (κs .1 .0, (κs .1 .1 .0, tt))) (xa a l₅ γ, (xr, (xc, tt))) tt r)))) (id⊢ 𝓤 _) $ await ! tt $ pick ! (λ r.
-        split ! $ move ! (1 ∷ []) $ use1 W (some (λ (ws : Account × (Unit {0} × (List ℕ × Unit {0}))). ‵ (lasts g.ended (α ∷ [], (κs .1 .0, (κs .1 .1 .0, tt))) (xa a l₅ γ, (xr, (xc, tt))) ws) ⊛ raw (fact 𝓤 (posting.IsRow (rowOf a (xr .now) (xc .now)) (ws .0) (ws .1 .1 .0) r)))) (id⊢ 𝓤 _) $ pick ! (λ ws.
-        split ! $ move ! (1 ∷ []) $ heard ! (posting.IsRow (rowOf a (xr .now) (xc .now)) (ws .0) (ws .1 .1 .0) r) (λ is-row.
+        split ! $ move ! (1 ∷ []) $ use1 W (some (λ (ws : Account × (Unit {0} × (List ℕ × Unit {0}))). ‵ (lasts g.ended (α ∷ [], (κs .1 .0, (κs .1 .1 .0, tt))) (xa a l₅ γ, (xr, (xc, tt))) ws) ⊛ raw (fact 𝓤 (posting.PostsRow a (xr .now) (xc .now) (ws .0) (ws .1 .1 .0) r)))) (id⊢ 𝓤 _) $ pick ! (λ ws.
+        split ! $ move ! (1 ∷ []) $ heard ! (posting.PostsRow a (xr .now) (xc .now) (ws .0) (ws .1 .1 .0) r) (λ is-row.
         fsplit ! $ move ! (1 ∷ []) $ fsplit ! $ drop ! $ fsplit ! $ fsplit ! $ move ! (1 ∷ []) $ feqL ! (λ l.
         -- [the last codes; true; the last account; the tokens and the result; the lender's part; the image's cell; …]
         move ! (3 ∷ []) $ split ! $ move ! (1 ∷ []) $ peeks ! u8 (Is u8) (shows 𝓤 H A u8) r (v ∷ []) (λ ir. drop ! $
