@@ -98,14 +98,15 @@ static void feed(prepay_account *a, int surely_none, prepay_event *row, uint8_t 
     else
         accounts++;
 
-    /* What the readings and figures of no account are, head.h leaves open: they come, and come alike, and nothing is written. */
+    /* What the readings of no account are, head.h leaves open: they come, and come alike, and nothing is written. */
     expect(same_reading(prepay_readings(a), prepay_readings(&was)), "the readings are those of the bytes");
     for (uint32_t i = 0; i < 18; i++) {
         uint32_t month = i < 16 ? i : i == 16 ? UINT32_MAX : any_number();
         prepay_summary_figures s = prepay_summary(a, month);
-        expect(s.code == 0 || s.code == 3 || s.code == 1, "a month's code is 0 or 3, or 1 for sums that no account has");
+        expect(none ? s.code == 1 : s.code == 0 || s.code == 3 || s.code == 1,
+               "1 for every month of no account; else a month's code is 0 or 3, or 1 for sums that no account has");
         expect(s.code == 0 || empty_figures(s), "the figures of a refused month are 0");
-        expect(month <= 14 || s.code == 3, "a month past 14 is refused");
+        expect(none || month <= 14 || s.code == 3, "a month past 14 is refused");
     }
     expect((none ? memcmp(a, &was, sizeof was) == 0 : same_account(a, &was)), "reading leaves the bytes as they are");
 

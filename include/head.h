@@ -135,8 +135,8 @@ typedef struct {
     uint64_t cost;
 } prepay_used;
 
-/* A month's figures. The code is 3 for a month that holds none of the account's days, and 1 where a charge sum of kind 1 or 2 is past
- * 2^40, which no account has; every figure is 0 then. */
+/* A month's figures. The code is 1 where every event gets 1, then 3 for a month that holds none of the account's days, then 1 where a
+ * charge sum of kind 1 or 2 is past 2^40, which no account has; every figure is 0 then. */
 typedef struct {
     uint8_t code;
     prepay_counted kept;     /* payments of the month's days, not reversed */

@@ -3,6 +3,7 @@
 //! each in a lent buffer". The numbers of the sorts are those of include/head.h.
 
 use crate::ledger::{Answer, Event, Ledger, Terms};
+use crate::summary::{summary, Summary};
 
 /// One event record. The fields that its sort does not name are not looked at.
 #[derive(Clone, Copy, Debug, Default, PartialEq, Eq)]
@@ -80,6 +81,14 @@ impl Head {
             // A sort outside its limits is 3, after 2, which goes by the day alone.
             None if ledger.refusal(record.day, Event::Warn) == 2 => Answer { code: 2, value: 0 },
             None => Answer { code: 3, value: 0 },
+        }
+    }
+
+    /// A month's figures: where every event gets 1, the code is 1 and every figure 0, whatever the month.
+    pub fn summary(&self, month: u32) -> Summary {
+        match &self.ledger {
+            Some(ledger) => summary(ledger, month),
+            None => Summary { code: 1, ..Summary::default() },
         }
     }
 

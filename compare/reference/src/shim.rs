@@ -93,8 +93,7 @@ pub unsafe extern "C" fn prepay_readings(account: *const c::Account) -> c::Readi
 pub unsafe extern "C" fn prepay_summary(account: *const c::Account, month: u32) -> c::Figures {
     let none = c::Figures { code: 255, ..c::Figures::default() };
     with(&*account, none, |head| {
-        let Some(ledger) = &head.ledger else { return none };
-        let s = summary::summary(ledger, month);
+        let s = head.summary(month);
         c::Figures {
             code: s.code,
             kept: c::Counted { count: s.kept_count as u32, sum: s.kept_sum as u64 },

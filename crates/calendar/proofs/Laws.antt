@@ -178,10 +178,6 @@ weekday-after (suc n) = let w = weekday-after n in decide (eqb (weekdayAfter n) 
     (λ t. rw t (omega (arith, eqb-true (weekdayAfter n) 6 t)))
     (λ t. rw t (omega (arith, eqb-false (weekdayAfter n) 6 t)))
 
-pub weekday-at : (o : Date) → Real o → (k : ℕ) → weekdayOf (dateOn o k) ≡ (daysAfter o + k + 5) % 7
-unfolding weekdayOf
-weekday-at o r k = rw (day-real o r k .later) (weekday-after (daysAfter o + k))
-
 -- the weekday of a day from that of the day before
 pub weekday-next : (o : Date) → opens o ≡ true → (k : ℕ) → weekdayOf (dateOn o (suc k)) ≡ cond (eqb (weekdayOf (dateOn o k)) 6) 0 (weekdayOf (dateOn o k) + 1)
 unfolding weekdayOf weekdayAfter dateOn
@@ -248,12 +244,6 @@ module _ (o : Date) (r : Real o) where
         λ e. rw (i, e) at (day-month k),
         λ p. omega (arith, within-unique lengthAfter (monthsAfter (dateOn o k)) (monthsAfter o + m) (daysAfter o + k) (day-month k) p),
       )
-
--- the months do not fall
-pub month-mono : (o : Date) → opens o ≡ true → (j k : ℕ) → j ≤ k → monthFrom o (dateOn o j) ≤ monthFrom o (dateOn o k)
-month-mono o h j k l =
-    let r = opens-real o h .real in
-    omega (arith, index-mono o r j k l, month-index o r j, month-index o r k)
 
 -- an account has months 0 to 14: after the opening month, 14 months have at least 7 * 59 = 413 days
 pub month-limit : (o : Date) (k : ℕ) → isDay o k ≡ true → monthFrom o (dateOn o k) ≤ 14

@@ -259,13 +259,10 @@ pub fn date_of(opened: Date, k: u32) -> Dated
 pub fn weekday_of(opened: Date, k: u32) -> u32
     ensures { λ r. ⌜ r ≡ weekdayOn opened k ⌝ }
 {
-    if !can_open(opened) {
-        return 7;
+    match date_of(opened, k) {
+        Dated::On(d) => d.weekday(),
+        Dated::Outside => 7,
     }
-    if k > 399 {
-        return 7;
-    }
-    (days_after(opened) + 5 + k) % 7
 }
 
 // The number of day k's month, 0 for the opening month to 14.
@@ -273,7 +270,7 @@ pub fn month_of(opened: Date, k: u32) -> u32
     ensures { λ r. ⌜ r ≡ monthOn opened k ⌝ }
 {
     match date_of(opened, k) {
-        Dated::On(d) => (12 * d.year + d.month) - (12 * opened.year + opened.month),
+        Dated::On(d) => d.month_from(opened) as u32,
         Dated::Outside => 15,
     }
 }

@@ -1,15 +1,18 @@
--- Posts over images are the record's posts. Assumes nothing.
+-- Posts over images are the record's posts, and numbers that are no image get 1. Assumes nothing.
+use Prim.Native.Nat.{ℕ}
 use mathlib.Core.Path.{_≡_, ap, _∙_}
 use mathlib.Core.Bool.{false}
 use Rattle.ledger.specs.declared.Event.{Event}
+use Rattle.ledger.specs.Months.{noSummary}
 use Rattle.ledger.proofs.Cases.{decide}
 use Rattle.account.specs.Head.{stepOf}
 use Rattle.account.specs.declared.Account.{Account}
+use Rattle.months.specs.Summary.{summaryOf}
 use Rattle.moves.proofs.Ways.{yes, no}
 use Rattle.image.specs.declared.Image.{Image}
-use Rattle.image.specs.Image.{isImage, accountOf, imageOf, imageAfter, postedOf, Carried}
+use Rattle.image.specs.Image.{isImage, accountOf, imageOf, imageAfter, postedOf, summaryIn, Carried}
 use Rattle.image.proofs.Conversions.{inverse-holds}
-use Rattle.image.proofs.Refused.{leaves, no-account}
+use Rattle.image.proofs.Refused.{leaves, no-account, no-summary}
 
 module _ (e : Event) where
   post-is : (a : Account) → postedOf (imageOf a) e ≡ record { image = imageOf (stepOf a e .account); code = stepOf a e .code; value = stepOf a e .value }
@@ -30,5 +33,9 @@ module _ (e : Event) where
   unfolding postedOf accountOf
   other-is i f = ap (λ (x : Account). stepOf x e .code) (no (isImage i) _ _ f) ∙ no-account e
 
+summary-is : (m : ℕ) (i : Image) → isImage i ≡ false → summaryIn i m ≡ noSummary 1
+unfolding summaryIn accountOf
+summary-is m i f = ap (λ (x : Account). summaryOf x m) (no (isImage i) _ _ f) ∙ no-summary m
+
 pub carried-holds : Carried
-carried-holds = record { post = λ a e. post-is e a; refusal = λ i e. refusal-is e i; other = λ i e. other-is e i }
+carried-holds = record { post = λ a e. post-is e a; refusal = λ i e. refusal-is e i; other = λ i e. other-is e i; summary = λ i m. summary-is m i }

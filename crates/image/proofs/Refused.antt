@@ -1,4 +1,4 @@
--- A refused event leaves the account as it was, and where there is no account every event gets 1. Assumes nothing.
+-- A refused event leaves the account as it was, and where there is no account every event and every month gets 1. Assumes nothing.
 use Prim.Native.Nat.{ℕ, _+_}
 use mathlib.Core.Path.{_≡_, refl}
 use mathlib.Core.Bool.{Bool, true, false, cond, not}
@@ -8,6 +8,7 @@ use Rattle.marks.specs.Marks.{latestWarning}
 use Rattle.calendar.specs.Calendar.{opens}
 use Rattle.terms.specs.Terms.{validTerms, termsCode}
 use Rattle.ledger.specs.declared.Event.{Event}
+use Rattle.ledger.specs.Months.{noSummary}
 use Rattle.account.specs.Record.{fresh, refused}
 use Rattle.moves.specs.Moves.{most, isAccount, earlyCode, byUsage}
 use Rattle.marks.specs.Marks.{isMissing}
@@ -16,6 +17,7 @@ use Rattle.moves.specs.declared.Usage.{Usage}
 use Rattle.moves.specs.declared.Usage.the-variants.{Blank, Estimated, Metered}
 use Rattle.account.specs.declared.Account.{Account}
 use Rattle.account.specs.declared.Posted.{Posted}
+use Rattle.months.specs.Summary.{summaryOf}
 use Rattle.image.specs.Image.{noTerms}
 
 -- where the code is not 0 the account is a
@@ -109,3 +111,7 @@ module _ (a : Account) where
 pub no-account : (e : Event) → stepOf (fresh noTerms) e .code ≡ 1
 unfolding stepOf earlyCode isAccount fresh termsCode validTerms opens
 no-account e = refl
+
+pub no-summary : (m : ℕ) → summaryOf (fresh noTerms) m ≡ noSummary 1
+unfolding isAccount fresh termsCode validTerms opens
+no-summary m = refl

@@ -8,6 +8,7 @@ use Rattle.terms.specs.declared.Terms.{Terms}
 use Rattle.terms.specs.Terms.{termsCode}
 use Rattle.ledger.specs.declared.Event.{Event}
 use Rattle.ledger.specs.declared.Summary.{Summary}
+use Rattle.ledger.specs.Months.{noSummary}
 use Rattle.account.specs.Record.{fresh}
 use Rattle.account.specs.Head.{stepOf}
 use Rattle.moves.specs.declared.Usage.{Usage}
@@ -154,10 +155,12 @@ readingsOf i = record {
 unfoldable pub summaryIn : Image → ℕ → Summary
 summaryIn i m = summaryOf (accountOf i) m
 
--- Over the image of a record a post is the record's own; a refusal leaves any numbers as they are; numbers that are no image get 1.
+-- Over the image of a record a post is the record's own; a refusal leaves any numbers as they are; numbers that are no image get 1, for an
+-- event and for a month.
 pub record Carried : Type 0 where
   pub post :
       (a : Account) (e : Event)
       → postedOf (imageOf a) e ≡ record { image = imageOf (stepOf a e .account); code = stepOf a e .code; value = stepOf a e .value }
   pub refusal : (i : Image) (e : Event) → (postedOf i e .code ≡ 0 → ⊥) → postedOf i e .image ≡ i
   pub other : (i : Image) (e : Event) → isImage i ≡ false → postedOf i e .code ≡ 1
+  pub summary : (i : Image) (m : ℕ) → isImage i ≡ false → summaryIn i m ≡ noSummary 1

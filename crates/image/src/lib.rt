@@ -385,7 +385,7 @@ pub fn inverse()
     ensures { λ _. ⌜ Inverse ⌝ }
 {}
 
-// Posts over images are the record's posts; refusals leave the numbers as they are.
+// Posts over images are the record's posts; refusals leave the numbers as they are; numbers that are no image get 1.
 pub fn carried()
     ensures { λ _. ⌜ Carried ⌝ }
 {}
@@ -432,7 +432,7 @@ pub fn readings(i: Image) -> Reading
     }
 }
 
-// Month m's figures.
+// Month m's figures; 1 where the numbers are no image.
 pub fn summary(i: Image, m: u32) -> Summary
     ensures { λ r. ⌜ r ≡ summaryIn i m ⌝ }
 {

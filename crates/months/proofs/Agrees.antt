@@ -1,6 +1,6 @@
 -- What is read off an account is the ledger's.
 -- Assumes nothing.
-use Prim.Native.Nat.{ℕ, suc, _+_, _*_, _≤_, _<_, min}
+use Prim.Native.Nat.{ℕ, suc, _+_, _*_, _≤_, _<_}
 use native.Mathlib.Omega.{arith}
 use mathlib.Core.Path.{_≡_, refl, sym, _∙_}
 use mathlib.Core.Bool.{Bool, true, false, not, _&&_, true≢false}
@@ -25,6 +25,7 @@ use Rattle.moves.specs.declared.Payment.{Payment}
 use Rattle.account.specs.declared.Account.{Account}
 use Rattle.refinement.specs.Lists.{Made}
 use Rattle.refinement.specs.Agree.{Agree, usageOf, paymentOf}
+use Rattle.refinement.proofs.Agreed.{is-account}
 use Rattle.refinement.proofs.Lists.{made-stands}
 use Rattle.months.specs.Summary.{inMonthOf, paymentsBy, one, amountOf, whMetered, costMetered, whEstimated, usageBy, summaryBy, summaryOf}
 use Rattle.months.proofs.Sums.{total-same, any-same, any-none}
@@ -56,11 +57,10 @@ module _ (t : Terms) (m : ℕ) (o : opens (t .opened) ≡ true) where
 
   module _ (a : Account) (l : Ledger) (g : Agree t a l) (d : Dated (l .list)) where
     paid : (p : Bool → Bool) (f : Payment → ℕ) (w : Entry → ℕ) → ((n : ℕ) → f (paymentOf n (l .list)) ≡ w (payment n (l .list)))
-        → paymentsBy (inMonthOf (t .opened) m) p f (a .payments) (min (a .totals .count) 128) ≡ paymentsIn t m p w (l .list)
+        → paymentsBy (inMonthOf (t .opened) m) p f (a .payments) (a .totals .count) ≡ paymentsIn t m p w (l .list)
     unfolding paymentsBy paymentsIn
     paid p f w h =
-        let c : min (a .totals .count) 128 ≡ payments (l .list) = omega (arith, g .bounds .count, g .sums .count) in
-        rw c
+        rw (g .sums .count)
         (total-same _ _ (payments (l .list)) (λ n b. rw (g .kept .payments n b, in-month (payment n (l .list) .event .day) (d n), h n))
         ∙ sym (by-number (λ (x : Entry) (n : ℕ). inMonth t m (x .event .day) && p (reversed n (l .list))) w (l .list)))
 
@@ -102,7 +102,7 @@ module _ (t : Terms) (m : ℕ) (o : opens (t .opened) ≡ true) where
 
     pub summary-is : summaryOf a m ≡ ledgerSummary t (l .list) m
     unfolding summaryBy ledgerSummary
-    summary-is = rw (g .terms, has-days) (decide (hasDays t m)
+    summary-is = rw (is-account t a l g, g .terms, has-days) (decide (hasDays t m)
         (λ y. let h : m ≤ 14 = month-small y in
         rw (y, first h, charge 1 h (omega arith), charge 2 h (omega arith), charge 3 h (omega arith), charge 4 h (omega arith), small 1, small 2, paid not one (λ (x : Entry). 1) (λ n. refl), paid not amountOf (λ (x : Entry). x .event .amount) (λ n. refl), paid isReversed one (λ (x : Entry). 1) (λ n. refl), paid isReversed amountOf (λ (x : Entry). x .event .amount) (λ n. refl), used whMetered meteredWh wh-metered, used costMetered meteredCost cost-metered, used whEstimated estimatedWh wh-estimated, used costHeld estimateCost cost-estimated))
         (λ f. rw f))

@@ -1,6 +1,6 @@
 -- The days of a month, as `calendar::days_of` answers them, and the summary over them.
 -- Assumes nothing.
-use Prim.Native.Nat.{ℕ, _≤_, _<_, min}
+use Prim.Native.Nat.{ℕ, _≤_, _<_}
 use native.Mathlib.Omega.{arith}
 use mathlib.Core.Path.{_≡_, sym}
 use mathlib.Core.Bool.{true, false, and-false}
@@ -13,6 +13,7 @@ use Rattle.calendar.specs.Days.{anyDay}
 use Rattle.calendar.proofs.Laws.{month-limit}
 use Rattle.ledger.specs.Months.{noSummary}
 use Rattle.ledger.proofs.Cases.{decide}
+use Rattle.moves.specs.Moves.{isAccount}
 use Rattle.account.specs.declared.Account.{Account}
 use Rattle.months.specs.Summary.{inMonthOf, chargesOf, summaryBy, summaryOf}
 use Rattle.months.specs.Work.{span, paidBy, usedBy, figuresOf}
@@ -62,12 +63,15 @@ module _ (o : Date) (m : ℕ) (r : Days) (g : MonthAnswer o m r) where
       (λ y. omega (arith, g .limit, leb-false (r .from) 399 (simp y at f)))
       (λ c. omega (arith, g .closed c)))
 
-module _ (a : Account) (m : ℕ) (r : Days) (g : MonthAnswer (a .terms .opened) m r) where
+pub summary-other : (a : Account) (m : ℕ) → isAccount (a .terms) (a .totals) ≡ false → noSummary 1 ≡ summaryOf a m
+summary-other a m f = rw f
+
+module _ (a : Account) (m : ℕ) (r : Days) (g : MonthAnswer (a .terms .opened) m r) (i : isAccount (a .terms) (a .totals) ≡ true) where
   pub summary-none : r .from ≡ r .to → noSummary 3 ≡ summaryOf a m
   unfolding summaryBy
-  summary-none e = rw (none (a .terms .opened) m r g e)
+  summary-none e = rw (i, none (a .terms .opened) m r g e)
 
   pub summary-some : (r .from ≡ r .to → ⊥)
-      → figuresOf (paidBy (span (r .from) (r .to)) (a .payments) (min (a .totals .count) 128)) (usedBy (span (r .from) (r .to)) (a .days) 400) (chargesOf (a .charges) m) ≡ summaryOf a m
+      → figuresOf (paidBy (span (r .from) (r .to)) (a .payments) (a .totals .count)) (usedBy (span (r .from) (r .to)) (a .days) 400) (chargesOf (a .charges) m) ≡ summaryOf a m
   unfolding summaryBy figuresOf paidBy usedBy
-  summary-some n = rw (some (a .terms .opened) m r g n, spans (a .terms .opened) m r g)
+  summary-some n = rw (i, some (a .terms .opened) m r g n, spans (a .terms .opened) m r g)

@@ -1,5 +1,5 @@
 -- The month summary off the account record.
-use Prim.Native.Nat.{ℕ, _+_, _*_, min}
+use Prim.Native.Nat.{ℕ, _+_, _*_}
 use mathlib.Core.Bool.{Bool, cond, not, _&&_}
 use mathlib.Core.List.{List, [], _∷_}
 use lib.ListN.{getD}
@@ -12,6 +12,7 @@ use Rattle.ledger.specs.declared.Used.{Used}
 use Rattle.ledger.specs.declared.Summary.{Summary}
 use Rattle.ledger.specs.Months.{isReversed, averageOf, noSummary}
 use Rattle.account.specs.Record.{blankDay, noPayment, costHeld}
+use Rattle.moves.specs.Moves.{isAccount}
 use Rattle.moves.specs.declared.Usage.{Usage}
 use Rattle.moves.specs.declared.Usage.the-variants.{Blank, Estimated, Metered}
 use Rattle.moves.specs.declared.Day.{Day}
@@ -99,12 +100,13 @@ unfoldable pub summaryBy : (ℕ → Bool) → Account → ℕ → Summary
 summaryBy q a m =
     cond (anyDay q 400)
     (figuresBy
-    (countedBy q not (a .payments) (min (a .totals .count) 128))
-    (countedBy q isReversed (a .payments) (min (a .totals .count) 128))
+    (countedBy q not (a .payments) (a .totals .count))
+    (countedBy q isReversed (a .payments) (a .totals .count))
     (meteredBy q (a .days) 400)
     (estimatedBy q (a .days) 400)
     (chargesOf (a .charges) m))
     (noSummary 3)
 
+-- A record that is no account, of which every event gets 1, gets 1 for every month.
 abbrev pub summaryOf : Account → ℕ → Summary
-summaryOf a m = summaryBy (inMonthOf (a .terms .opened) m) a m
+summaryOf a m = cond (isAccount (a .terms) (a .totals)) (summaryBy (inMonthOf (a .terms .opened) m) a m) (noSummary 1)

@@ -8,7 +8,7 @@ use moves::Day;
 use moves::Payment;
 use moves::Usage;
 ghost use mathlib.Core.Path.{_≡_};
-ghost use Prim.Native.Nat.{ℕ, _+_, _≤_, min};
+ghost use Prim.Native.Nat.{ℕ, _+_, _≤_};
 ghost use Rattle.terms.specs.declared.Terms.{Terms};
 ghost use Rattle.ledger.specs.Rules.{Ledger};
 ghost use Rattle.ledger.specs.Months.{noSummary, averageOf, ledgerSummary};
@@ -86,16 +86,6 @@ fn paid_in(payments: [Payment; 128], count: u32, from: u32, to: u32) -> Paid
         n += 1;
     }
     s
-}
-
-// The payments that the record holds: no more than it has room for.
-fn held(count: u32) -> u32
-    ensures { λ r. ⌜ r ≡ min count 128 ⌝ }
-{
-    if count > 128 {
-        return 128;
-    }
-    count
 }
 
 // ---- usage days
@@ -225,21 +215,24 @@ fn figures(p: Paid, u: Usages, charges: [u64; 5]) -> Summary
     }
 }
 
-// Month m's figures, counted from the opening month. The code is 3 where none of the account's days lies in it, and 1 where a sum of
-// charges in the average is past any account's.
+// Month m's figures, counted from the opening month. The code is 1 where the record is no account, then 3 where none of the account's
+// days lies in the month, then 1 where a sum of charges in the average is past any account's.
 pub fn summary(a: Account, m: u32) -> Summary
     ensures { λ r. ⌜ r ≡ summaryOf a m ⌝ }
     ensures { λ r. ⌜ IsLedgers a (λ (t : Terms) (l : Ledger). ledgerSummary t (l .list) m) r ⌝ }
 {
     let t = a.terms;
     let s = a.totals;
+    if !moves::is_account(t, s) {
+        return nothing(1);
+    }
     let opened = t.opened;
     let days = calendar::days_of(opened, m);
     if days.from == days.to {
         return nothing(3);
     }
     let payments = a.payments;
-    let paid = paid_in(payments, held(s.count), days.from, days.to);
+    let paid = paid_in(payments, s.count, days.from, days.to);
     let usage = a.days;
     let used = used_in(usage, days.from, days.to);
     let sums = a.charges;

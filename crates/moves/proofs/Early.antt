@@ -34,6 +34,31 @@ or-false false b h = (refl, h)
 
 -- ---- the terms, the totals and the day
 
+-- what the test of an account tells
+pub record InReach (t : Terms) (s : Totals) : Type 0 where
+  pub terms : termsCode t ≡ 0
+  pub credit : s .credit ≤ 1152921504606846976
+  pub debit : s .debit ≤ 1152921504606846976
+  pub plan : s .plan ≤ 1152921504606846976
+  pub standing : s .standing ≤ 1152921504606846976
+  pub count : s .count ≤ 128
+
+pub in-reach : (t : Terms) (s : Totals) → isAccount t s ≡ true → InReach t s
+unfolding isAccount
+in-reach t s h =
+    let credit = leb-and (s .credit) _ _ (and-right (eqb (termsCode t) 0) _ h) in
+    let debit = leb-and (s .debit) _ _ (credit .1) in
+    let plan = leb-and (s .plan) _ _ (debit .1) in
+    let standing = leb-and (s .standing) _ _ (plan .1) in
+    record {
+      terms = eqb-true (termsCode t) 0 (and-left _ _ h);
+      credit = credit .0;
+      debit = debit .0;
+      plan = plan .0;
+      standing = standing .0;
+      count = leb-true (s .count) 128 (standing .1);
+    }
+
 pub record Early (t : Terms) (s : Totals) (e : Event) : Type 0 where
   pub terms : termsCode t ≡ 0
   pub valid : validTerms t ≡ true
@@ -53,34 +78,30 @@ pub record Early (t : Terms) (s : Totals) (e : Event) : Type 0 where
   pub room : s .events < 4096
 
 pub early : (t : Terms) (s : Totals) (e : Event) → earlyCode t s e ≡ 0 → Early t s e
-unfolding earlyCode isAccount validTerms termsCode
+unfolding earlyCode validTerms termsCode
 early t s e h =
     let account = accepts (isAccount t s) _ 0 h in
     let days = rejects _ _ 1 (account .1) in
     let fields = accepts (inLimits e) _ 2 (days .1) in
     let day = or-false _ _ (days .0) in
-    let code = eqb-true (termsCode t) 0 (and-left _ _ (account .0)) in
-    let valid = accepts (validTerms t) 0 0 code in
-    let credit = leb-and (s .credit) _ _ (and-right (eqb (termsCode t) 0) _ (account .0)) in
-    let debit = leb-and (s .debit) _ _ (credit .1) in
-    let plan = leb-and (s .plan) _ _ (debit .1) in
-    let standing = leb-and (s .standing) _ _ (plan .1) in
+    let reach = in-reach t s (account .0) in
+    let valid = accepts (validTerms t) 0 0 (reach .terms) in
     let price = and-right (opens (t .opened)) _ (valid .0) in
     let connect = leb-and (t .connect) 7500 _ (and-right (within 1 99999 (t .price)) _ price) in
     let cutoff = and-left _ _ (connect .1) in
     record {
-      terms = code;
+      terms = reach .terms;
       valid = valid .0;
       opened = and-left (opens (t .opened)) _ (valid .0);
       price = leb-true (t .price) 99999 (leb-and 1 (t .price) _ (and-left _ _ price) .1);
       connect = connect .0;
       cutoff = leb-and (t .cutoff) 1000 _ cutoff .0;
       share = leb-true (t .share) 50 (and-right (leb (t .cutoff) 1000 && leb (t .cutoff) (t .connect)) _ (connect .1));
-      credit = credit .0;
-      debit = debit .0;
-      plan = plan .0;
-      standing = standing .0;
-      count = leb-true (s .count) 128 (standing .1);
+      credit = reach .credit;
+      debit = reach .debit;
+      plan = reach .plan;
+      standing = reach .standing;
+      count = reach .count;
       last = ltb-false (e .day) (s .last) (day .0);
       day = ltb-false 399 (e .day) (day .1);
       limits = fields .0;

@@ -4,7 +4,7 @@ use ledger::Event;
 use terms::Terms;
 ghost use mathlib.Core.Path.{_≡_};
 ghost use Prim.Native.Nat.{_<_};
-ghost use Rattle.moves.specs.Moves.{tallied, moved, refusing, earlyCode, bySort, moveOf, standing};
+ghost use Rattle.moves.specs.Moves.{isAccount, tallied, moved, refusing, earlyCode, bySort, moveOf, standing};
 
 mod charges;
 mod days;
@@ -67,6 +67,30 @@ pub struct Move {
     pub kind: u32,
     pub from: u32,
     pub to: u32,
+}
+
+const MOST: u64 = 1152921504606846976;
+
+// Whether the terms are within their limits and the totals within any account's reach, so that no sum of a step wraps.
+pub fn is_account(t: Terms, s: Totals) -> bool
+    ensures { λ r. ⌜ r ≡ isAccount t s ⌝ }
+{
+    if terms::check(t) != 0 {
+        return false;
+    }
+    if s.credit > MOST {
+        return false;
+    }
+    if s.debit > MOST {
+        return false;
+    }
+    if s.plan > MOST {
+        return false;
+    }
+    if s.standing > MOST {
+        return false;
+    }
+    s.count <= 128
 }
 
 fn refuse(mut m: Move, k: u8) -> Move

@@ -10,29 +10,28 @@ use lib.Dec.{ltb}
 use lib.IntN.{ℤ, pos, negsuc}
 use lib.Signed.{mag}
 use borrow.Author.Tests.{ltb-true, ltb-false, lt-ltb, le-ltb}
-use Rattle.printing.specs.Printing.{digits, decimal, signed}
+use Rattle.printing.specs.Printing.{digitsBy, digits, decimal, CountSuffices, signed}
+use Rattle.printing.proofs.Counts.{uncounted}
 
 -- each way a test can come out
 pub decide : {X : Type 0} (b : Bool) → (b ≡ true → X) → (b ≡ false → X) → X
 decide true t f = t refl
 decide false t f = f refl
 
--- more room for digits than there are changes nothing
-enough : (k j n : ℕ) → n < k → n < j → digits k n ≡ digits j n
-unfolding digits
-enough zero j n h g = absurd (omega arith)
-enough (suc k) zero n h g = absurd (omega arith)
-enough (suc k) (suc j) n h g = decide (ltb n 10)
+local : (f g : ℕ → List ℕ) (n : ℕ) → ((m : ℕ) → m < n → f m ≡ g m) → digitsBy f n ≡ digitsBy g n
+local f g n h = decide (ltb n 10)
     (λ t. simp t)
-    (λ f. simp f (ap (λ (d : List ℕ). d ++ ((48 + n % 10) ∷ [])) (enough k j (n / 10) (omega (arith, ltb-false n 10 f)) (omega (arith, ltb-false n 10 f)))))
+    (λ t. simp t (ap (λ (d : List ℕ). d ++ ((48 + n % 10) ∷ [])) (h (n / 10) (omega (arith, ltb-false n 10 t)))))
+
+pub count-suffices : CountSuffices
+unfolding decimal digits
+count-suffices n = uncounted (λ m. m) digitsBy digits (λ k x. refl) local n
 
 pub decimal-low : (n : ℕ) → n < 10 → decimal n ≡ (48 + n) ∷ []
-unfolding decimal digits
-decimal-low n h = simp (lt-ltb n 10 h)
+decimal-low n h = count-suffices n ∙ simp (lt-ltb n 10 h)
 
 pub decimal-high : (n : ℕ) → 10 ≤ n → decimal n ≡ decimal (n / 10) ++ ((48 + n % 10) ∷ [])
-unfolding decimal digits
-decimal-high n h = simp (le-ltb n 10 h) (ap (λ (d : List ℕ). d ++ ((48 + n % 10) ∷ [])) (enough n (suc (n / 10)) (n / 10) (omega arith) (omega arith)))
+decimal-high n h = count-suffices n ∙ simp (le-ltb n 10 h)
 
 pub length-high : (n : ℕ) → 10 ≤ n → length (decimal n) ≡ length (decimal (n / 10)) + 1
 length-high n h = ap length (decimal-high n h) ∙ length-append (decimal (n / 10)) ((48 + n % 10) ∷ [])

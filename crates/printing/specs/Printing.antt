@@ -7,14 +7,22 @@ use lib.ListN.{length, take, drop}
 use lib.Dec.{ltb, leb}
 use lib.IntN.{ℤ, pos, negsuc}
 
--- in base ten, all digits, or the last k if there are more
+-- a number in base ten, without leading zero, zero being `0`, by `more`: the digits of its tenth
+abbrev pub digitsBy : (ℕ → List ℕ) → ℕ → List ℕ
+digitsBy more n = cond (ltb n 10) ((48 + n) ∷ []) (more (n / 10) ++ ((48 + n % 10) ∷ []))
+
+-- all digits, or the last k if there are more
 unfoldable pub digits : ℕ → ℕ → List ℕ
 digits zero n = []
-digits (suc k) n = cond (ltb n 10) ((48 + n) ∷ []) (digits k (n / 10) ++ ((48 + n % 10) ∷ []))
+digits (suc k) n = digitsBy (digits k) n
 
--- a number in base ten, without leading zero, zero being `0`: it has at most n + 1 digits
+-- n has at most n + 1 digits: `printing::count_suffices`.
 unfoldable pub decimal : ℕ → List ℕ
 decimal n = digits (suc n) n
+
+-- The equation holds without the count, for every number.
+abbrev pub CountSuffices : Type 0
+CountSuffices = (n : ℕ) → decimal n ≡ digitsBy decimal n
 
 -- "a negative sum has a leading minus"
 unfoldable pub signed : ℤ → List ℕ

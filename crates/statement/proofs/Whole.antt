@@ -1,10 +1,10 @@
 -- From the terms: the lines are those of the ledger.
 -- Assumes nothing.
-use Prim.Native.Nat.{ℕ, suc, _-_}
+use Prim.Native.Nat.{ℕ}
 use mathlib.Core.Path.{_≡_, ap, subst, _∙_}
 use mathlib.Core.Bool.{true}
 use mathlib.Core.List.{List}
-use lib.ListN.{length, drop, length-drop}
+use lib.ListN.{drop}
 use Rattle.terms.specs.Terms.{validTerms}
 use Rattle.terms.specs.declared.Terms.{Terms}
 use Rattle.ledger.specs.declared.Event.{Event}
@@ -20,7 +20,7 @@ use Rattle.scanner.specs.Scanner.{got}
 use Rattle.printing.specs.Printing.{Wrote}
 use Rattle.transcript.specs.Transcript.{termsLine, byTerms}
 use Rattle.transcript.proofs.Terms.{valid, refused}
-use Rattle.statement.specs.Statement.{monthLines, eventsIn, allMonths}
+use Rattle.statement.specs.Statement.{monthLines, eventsOf, allMonths}
 use Rattle.statement.proofs.Lines.{same-lines}
 
 module _ (t : Terms) (o : Opened) (is : o ≡ openOf t) {b after : List ℕ} {r : ℕ} where
@@ -28,11 +28,11 @@ module _ (t : Terms) (o : Opened) (is : o ≡ openOf t) {b after : List ℕ} {r 
   no-account s ne w = subst (λ (x : List ℕ). Wrote b 0 x after r) (refused t o is allMonths s ne) w
 
   pub opened : (text : List ℕ) (start : ℕ) (a : Account) → o .code ≡ 0
-      → a ≡ accountAfter (o .account) (eventsIn (suc (length text - start)) (drop start text))
+      → a ≡ accountAfter (o .account) (eventsOf (drop start text))
       → Wrote b 0 (monthLines (λ (m : ℕ). summaryOf a m) 15) after r → Wrote b 0 (byTerms allMonths (got t (drop start text))) after r
   opened text start a e p w =
       let v : validTerms t ≡ true = valid t o is e in
-      let es : List Event = eventsIn (suc (length text - start)) (drop start text) in
+      let es : List Event = eventsOf (drop start text) in
       let made : Made t es a = record { valid = v; account = p ∙ ap (λ (q : Opened). accountAfter (q .account) es) is } in
       let lines = same-lines (λ (m : ℕ). summaryOf a m) (ledgerSummary t (ledgerOf t es .list)) (λ m. summary-made a m t es made) 15 in
-      simp (v, length-drop) (rw lines at w)
+      simp v (rw lines at w)

@@ -1,12 +1,13 @@
 -- What `summary` prints, as a definition of the bytes it was given, in the ledger's terms.
 use Prim.Native.Nat.{ℕ, zero, suc}
+use mathlib.Core.Path.{_≡_}
 use mathlib.Core.Bool.{cond}
 use mathlib.Core.List.{List, [], _∷_, _++_}
 use lib.ListN.{length, getD}
 use Rattle.terms.specs.declared.Terms.{Terms}
 use Rattle.ledger.specs.declared.Event.{Event}
 use Rattle.ledger.specs.declared.Summary.{Summary}
-use Rattle.ledger.specs.Ledger.{opening, ledgerAfter}
+use Rattle.ledger.specs.Ledger.{ledgerOf}
 use Rattle.ledger.specs.Months.{ledgerSummary}
 use Rattle.scanner.specs.Scanner.{got, broken}
 use Rattle.text.specs.Text.{readEvent}
@@ -97,18 +98,29 @@ monthLines f (suc n) = monthLines f n ++ summaryLine n (f n)
 
 -- ---- the text
 
--- The events that stand in the bytes, up to the end or to the first that breaks the form; k is more than the number of bytes, so
--- `zero` is not reached.
-unfoldable pub eventsIn : ℕ → List ℕ → List Event
-eventsIn zero s = []
-eventsIn (suc k) s =
+-- The events that stand in the bytes, up to the end or to the first that breaks the form, by `more`: those from the next one on.
+abbrev pub eventsBy : (List ℕ → List Event) → List ℕ → List Event
+eventsBy more s =
     elim (readEvent s) [
-      | got e r ↦ e ∷ eventsIn k r
+      | got e r ↦ e ∷ more r
       | broken ↦ []
     ]
 
+-- k of them at most
+unfoldable pub eventsIn : ℕ → List ℕ → List Event
+eventsIn zero s = []
+eventsIn (suc k) s = eventsBy (eventsIn k) s
+
+-- There are fewer events than bytes: `statement::count_suffices`.
+abbrev pub eventsOf : List ℕ → List Event
+eventsOf s = eventsIn (suc (length s)) s
+
+-- The equation holds without the count, for every text.
+abbrev pub CountSuffices : Type 0
+CountSuffices = (s : List ℕ) → eventsOf s ≡ eventsBy eventsOf s
+
 abbrev pub allMonths : Terms → List ℕ → List ℕ
-allMonths t r = monthLines (ledgerSummary t (ledgerAfter t opening (eventsIn (suc (length r)) r) .list)) 15
+allMonths t r = monthLines (ledgerSummary t (ledgerOf t (eventsOf r) .list)) 15
 
 -- Refused or malformed terms print the one line that `prepay` prints for them.
 unfoldable pub summaries : List ℕ → List ℕ

@@ -9,14 +9,14 @@ use text::EventRead;
 use text::TermsRead;
 ghost use mathlib.Core.Path.{_≡_};
 ghost use mathlib.Core.Bool.{cond};
-ghost use Prim.Native.Nat.{ℕ, suc, _+_, _-_, _≤_};
+ghost use Prim.Native.Nat.{ℕ, _+_, _≤_};
 ghost use lib.ListN.{length, drop};
 ghost use Rattle.scanner.specs.Scanner.{got};
 ghost use Rattle.printing.specs.Printing.{Wrote};
 ghost use Rattle.refinement.specs.Lists.{accountAfter};
 ghost use Rattle.months.specs.Summary.{summaryOf};
 ghost use Rattle.transcript.specs.Transcript.{termsLine, byTerms};
-ghost use Rattle.statement.specs.Statement.{pair, firstPart, usagePart, lastPart, summaryLine, monthLines, eventsIn, allMonths, Written};
+ghost use Rattle.statement.specs.Statement.{pair, firstPart, usagePart, lastPart, summaryLine, monthLines, eventsOf, CountSuffices, allMonths, Written};
 
 // ---- one line
 
@@ -138,10 +138,15 @@ fn put_months(out: &mut [u8], a: Account) -> usize
 
 // ---- the text
 
+// The definition of a text's events counts them down, and there are fewer events than bytes.
+pub fn count_suffices()
+    ensures { λ _. ⌜ CountSuffices ⌝ }
+{}
+
 // The account after the events from a place of the text on, to its end or to the first that breaks the form.
 fn post_events(text: &[u8], start: usize, a: Account) -> Account
     requires { ⌜ start ≤ length (now text) ⌝ }
-    ensures { λ r. ⌜ r ≡ accountAfter a (eventsIn (suc (length (now (text .entry)) - start)) (drop start (now (text .entry)))) ⌝ }
+    ensures { λ r. ⌜ r ≡ accountAfter a (eventsOf (drop start (now (text .entry)))) ⌝ }
 {
     let mut b = a;
     let mut at = start;

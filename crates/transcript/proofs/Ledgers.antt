@@ -9,9 +9,8 @@ use lib.Dec.{eqb}
 use borrow.Author.Tests.{lt-ltb, le-ltb, eqb-true, eqb-false}
 use Rattle.terms.specs.Terms.{validTerms}
 use Rattle.terms.specs.declared.Terms.{Terms}
-use Rattle.ledger.specs.declared.Event.{Event}
 use Rattle.ledger.specs.Rules.{Ledger}
-use Rattle.ledger.specs.Ledger.{Outcome, opening, ledgerStep}
+use Rattle.ledger.specs.Ledger.{opening, ledgerStep}
 use Rattle.ledger.specs.Sums.{standing}
 use Rattle.ledger.proofs.Cases.{decide}
 use Rattle.account.specs.Record.{fresh}
@@ -21,15 +20,15 @@ use Rattle.account.specs.declared.Account.{Account}
 use Rattle.refinement.specs.Agree.{Stands, Refinement}
 use Rattle.refinement.proofs.Lists.{refinement-holds}
 use Rattle.readings.proofs.After.{balance-reading, settled-reading}
-use Rattle.scanner.specs.Scanner.{Read, got, broken}
+use Rattle.scanner.specs.Scanner.{got, broken}
 use Rattle.text.specs.Text.{readTerms, readEvent}
 use Rattle.transcript.specs.Transcript.{line, closing, eventLines, termsLine, byTerms, allLines, transcript}
 use Rattle.transcript.specs.Pieces.{noTerms, startOf, begunOf, Begun}
 use Rattle.transcript.specs.declared.Progress.{Progress}
 use Rattle.transcript.proofs.Whole.{begun, events-left, refusal-left}
 use Rattle.transcript.proofs.Terms.{valid, refused, by-terms}
-use Rattle.transcript.specs.Work.{headLine, headClosing, headLines}
-use Rattle.transcript.proofs.Turn.{by-read, lines-got, lines-broken}
+use Rattle.transcript.specs.Work.{headLine, headClosing, headLines, headLinesOf}
+use Rattle.transcript.proofs.Counts.{by-read, ledger-got, ledger-broken, lines-got, lines-broken}
 
 -- ---- one line
 
@@ -39,20 +38,6 @@ module _ (t : Terms) (a : Account) (l : Ledger) (s : Stands t a l) where
 
   line-is : (n code value : ℕ) → headLine n code value (a .totals) ≡ line n code value (l .balance) (l .plan)
   line-is n code value = rw (balance-reading t a l s, s .agree .sums .plan)
-
--- ---- the ledger's lines, by what stands there
-
-events-got : (k : ℕ) (t : Terms) (l : Ledger) (n b : ℕ) (s r : List ℕ) (e : Event) → readEvent (b ∷ s) ≡ got e r
-    → eventLines (suc k) t l n (b ∷ s)
-    ≡ line n (ledgerStep t l e .answer .code) (ledgerStep t l e .answer .value) (ledgerStep t l e .ledger .balance) (ledgerStep t l e .ledger .plan)
-    ++ eventLines k t (ledgerStep t l e .ledger) (n + 1) r
-unfolding eventLines
-events-got k t l n b s r e g = rw (g, eventLines)
-
-events-broken : (k : ℕ) (t : Terms) (l : Ledger) (n b : ℕ) (s : List ℕ) → readEvent (b ∷ s) ≡ broken
-    → eventLines (suc k) t l n (b ∷ s) ≡ line n 15 0 (l .balance) (l .plan) ++ closing t l
-unfolding eventLines
-events-broken k t l n b s g = rw (g, eventLines)
 
 -- ---- all lines
 
@@ -65,25 +50,25 @@ lines-are t v (suc k) a l n (b ∷ s) h = by-read (readEvent (b ∷ s))
     let f : Refinement t = refinement-holds t v in
     let m : Ledger = ledgerStep t l e .ledger in
     let st : Stands t (stepOf a e .account) m = f .again a l e h in
-    lines-got k a n (b ∷ s) r e (omega arith) g
+    lines-got (headLines k) a n (b ∷ s) r e (omega arith) g
     ∙ ap₂ _++_
     (line-is t (stepOf a e .account) m st n (stepOf a e .code) (stepOf a e .value)
     ∙ ap₂ (λ (c w : ℕ). line n c w (m .balance) (m .plan)) (f .code a l e h) (f .value a l e h))
     (lines-are t v k (stepOf a e .account) m (n + 1) r st)
-    ∙ sym (events-got k t l n b s r e g))
+    ∙ sym (ledger-got (eventLines k t) t l n b s e r g))
     (λ g.
-    lines-broken k a n (b ∷ s) (omega arith) g
+    lines-broken (headLines k) a n (b ∷ s) (omega arith) g
     ∙ ap₂ _++_ (line-is t a l h n 15 0) (closing-is t a l h)
-    ∙ sym (events-broken k t l n b s g))
+    ∙ sym (ledger-broken (eventLines k t) t l n b s g))
 
 -- ---- from the terms
 
 module _ (t : Terms) (o : Opened) (is : o ≡ openOf t) where
   pub opened : (text : List ℕ) (start : ℕ) → o .code ≡ 0
-      → headLines (suc (length text - start)) (o .account) 1 (drop start text) ≡ byTerms allLines (got t (drop start text))
+      → headLinesOf (o .account) 1 (drop start text) ≡ byTerms allLines (got t (drop start text))
   opened text start e =
       let v : validTerms t ≡ true = valid t o is e in
-      simp (v, length-drop) (rw (ap (λ (p : Opened). p .account) is) (lines-are t v (suc (length text - start)) (fresh t) opening 1 (drop start text) (refinement-holds t v .opens)))
+      simp v (rw (ap (λ (p : Opened). p .account) is) (lines-are t v (suc (length (drop start text))) (fresh t) opening 1 (drop start text) (refinement-holds t v .opens)))
 
   -- before the first piece
   pub opened-begun : (text : List ℕ) (next : ℕ) → length text ≤ 65536 → next ≤ length text → readTerms text ≡ got t (drop next text)

@@ -15,7 +15,7 @@ use Rattle.ledger.proofs.Cases.{decide}
 use Rattle.readings.specs.Readings.{balanceOf}
 use Rattle.transcript.specs.Transcript.{transcript, termsLine, Written}
 use Rattle.transcript.specs.Work.{headLine}
-use Rattle.transcript.specs.Pieces.{linesFrom, rest, stays, eventsPiece, pieceOf, begunOf, Piece, Printed, last, then, Begun}
+use Rattle.transcript.specs.Pieces.{linesFrom, rest, stays, pieceFrom, pieceOf, begunOf, Piece, Printed, last, then, Begun}
 use Rattle.transcript.specs.declared.Progress.{Progress}
 
 -- ---- what is still to be printed
@@ -101,7 +101,7 @@ refused s p {b} {after} {r} d h n roomy w =
 -- ---- how far a piece goes, by where it stands
 
 pub by-events : (s : List ℕ) (p : Progress) (room : ℕ) → p .done ≡ false → p .code ≡ 0 → p .count ≤ p .at → 174 ≤ room
-    → pieceOf s p room ≡ eventsPiece (suc (length s - p .at)) room s (p .account) (p .at) (p .count) 0
+    → pieceOf s p room ≡ pieceFrom room s (p .account) (p .at) (p .count) 0
 by-events s p room d c h roomy = simp (le-ltb room 174 roomy, d, le-ltb (p .at) (p .count) h, c)
 
 -- ---- all pieces

@@ -1,3 +1,4 @@
+pub mod Counts
 pub mod Pieces
 pub mod Transcript
 pub mod Work

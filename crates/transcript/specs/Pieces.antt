@@ -13,14 +13,14 @@ use Rattle.account.specs.declared.Posted.{Posted}
 use Rattle.scanner.specs.Scanner.{got, broken}
 use Rattle.text.specs.Text.{readTerms, readEvent}
 use Rattle.transcript.specs.Transcript.{termsLine, transcript}
-use Rattle.transcript.specs.Work.{headLine, headClosing, headLines}
+use Rattle.transcript.specs.Work.{headLine, headClosing, headLinesOf}
 use Rattle.transcript.specs.declared.Progress.{Progress}
 
 -- ---- what is still to be printed
 
 -- the lines of the events from a place of the text on, and the last line
 abbrev pub linesFrom : List ℕ → Account → ℕ → ℕ → List ℕ
-linesFrom s a at count = headLines (suc (length s - at)) a (count + 1) (drop at s)
+linesFrom s a at count = headLinesOf a (count + 1) (drop at s)
 
 -- Whether there is more to print. No call leaves more events than bytes; for such a `Progress` nothing is printed.
 abbrev pub unprinted : Progress → Bool
@@ -39,17 +39,25 @@ abbrev pub reached : Account → ℕ → ℕ → ℕ → Bool → Progress
 reached a at count n done = record { account = a; at = at; count = count; code = 0; length = n; done = done }
 
 -- From a place of the text on, in a buffer of `room` bytes, n of them used: lines of events while 174 bytes are free, which hold an event's
--- line (114 at most) and the last line (60 at most). k is more than the number of bytes from there on, so `zero` is not reached.
-unfoldable pub eventsPiece : ℕ → ℕ → List ℕ → Account → ℕ → ℕ → ℕ → Progress
-eventsPiece zero room s a at count n = reached a at count n true
-eventsPiece (suc k) room s a at count n =
+-- line (114 at most) and the last line (60 at most); by `more`, how far it goes from the next event on.
+abbrev pub pieceBy : (Account → ℕ → ℕ → ℕ → Progress) → ℕ → List ℕ → Account → ℕ → ℕ → ℕ → Progress
+pieceBy more room s a at count n =
     cond (leb (length s) at) (reached a at count (n + length (headClosing (a .totals))) true)
     (cond (ltb (room - n) 174) (reached a at count n false)
     (elim (readEvent (drop at s)) [
-      | got e r ↦ eventsPiece k room s (stepOf a e .account) (length s - length r) (count + 1)
+      | got e r ↦ more (stepOf a e .account) (length s - length r) (count + 1)
           (n + length (headLine (count + 1) (stepOf a e .code) (stepOf a e .value) (stepOf a e .account .totals)))
       | broken ↦ reached a at count (n + length (headLine (count + 1) 15 0 (a .totals)) + length (headClosing (a .totals))) true
     ]))
+
+-- the same for k events at most
+unfoldable pub eventsPiece : ℕ → ℕ → List ℕ → Account → ℕ → ℕ → ℕ → Progress
+eventsPiece zero room s a at count n = reached a at count n true
+eventsPiece (suc k) room s a at count n = pieceBy (eventsPiece k room s) room s a at count n
+
+-- There are fewer events than bytes: `transcript::counts_suffice`.
+abbrev pub pieceFrom : ℕ → List ℕ → Account → ℕ → ℕ → ℕ → Progress
+pieceFrom room s a at count n = eventsPiece (suc (length s - at)) room s a at count n
 
 -- after the next piece, in a buffer of `room` bytes
 abbrev pub pieceOf : List ℕ → Progress → ℕ → Progress
@@ -57,7 +65,7 @@ pieceOf s p room =
     cond (ltb room 174) (stays p 0 (p .done))
     (cond (p .done) (stays p 0 (p .done))
     (cond (ltb (p .at) (p .count)) (stays p 0 true)
-    (cond (eqb (p .code) 0) (eventsPiece (suc (length s - p .at)) room s (p .account) (p .at) (p .count) 0)
+    (cond (eqb (p .code) 0) (pieceFrom room s (p .account) (p .at) (p .count) 0)
     (stays p (length (termsLine (p .code))) true))))
 
 -- What a call leaves. The first three clauses fix it: the progress after it, the bytes put, which are the next of those still to be printed,

@@ -53,18 +53,25 @@ lastLine sum cost = wSettled ++ (signed sum ++ (wEstimates ++ (decimal cost ++ w
 abbrev pub closing : Terms → Ledger → List ℕ
 closing t l = lastLine (settled t (l .list)) (standing t (l .list))
 
--- The lines of the events that stand in the bytes, the first of them with ordinal n, and the last line; k is more than the number of bytes, so
--- `zero` is not reached.
--- "Code 15 prints its line and no more is read, then the last line."
-unfoldable pub eventLines : ℕ → Terms → Ledger → ℕ → List ℕ → List ℕ
-eventLines zero t l n s = []
-eventLines (suc k) t l n [] = closing t l
-eventLines (suc k) t l n (b ∷ s) =
+-- The lines of the events that stand in the bytes, the first of them with ordinal n, and the last line, by `more`: the lines from the next
+-- event on. "Code 15 prints its line and no more is read, then the last line."
+abbrev pub linesBy : (Ledger → ℕ → List ℕ → List ℕ) → Terms → Ledger → ℕ → List ℕ → List ℕ
+linesBy more t l n [] = closing t l
+linesBy more t l n (b ∷ s) =
     elim (readEvent (b ∷ s)) [
       | got e r ↦ line n (ledgerStep t l e .answer .code) (ledgerStep t l e .answer .value) (ledgerStep t l e .ledger .balance) (ledgerStep t l e .ledger .plan)
-          ++ eventLines k t (ledgerStep t l e .ledger) (n + 1) r
+          ++ more (ledgerStep t l e .ledger) (n + 1) r
       | broken ↦ line n 15 0 (l .balance) (l .plan) ++ closing t l
     ]
+
+-- the same for k events at most
+unfoldable pub eventLines : ℕ → Terms → Ledger → ℕ → List ℕ → List ℕ
+eventLines zero t l n s = []
+eventLines (suc k) t l n s = linesBy (eventLines k t) t l n s
+
+-- There are fewer events than bytes: `transcript::counts_suffice`.
+abbrev pub linesOf : Terms → Ledger → ℕ → List ℕ → List ℕ
+linesOf t l n s = eventLines (suc (length s)) t l n s
 
 -- "Refused or malformed terms print one line, `n=0`, with the code and zeros, and nothing after."
 abbrev pub termsLine : ℕ → List ℕ
@@ -81,7 +88,7 @@ byText lines s = cond (ltb 65536 (length s)) (termsLine 15) (byTerms lines (read
 
 -- what `prepay` prints
 abbrev pub allLines : Terms → List ℕ → List ℕ
-allLines t r = eventLines (suc (length r)) t opening 1 r
+allLines t r = linesOf t opening 1 r
 
 unfoldable pub transcript : List ℕ → List ℕ
 transcript s = byText allLines s

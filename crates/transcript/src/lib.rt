@@ -1,6 +1,6 @@
 // What `prepay` prints for a text: whole into a lent buffer, or in pieces through one of any size.
 // It uses the event text, the terms, the account, the moves, the marks, the readings and the printing. Its promises cite
-// specs/Transcript.antt and specs/Pieces.antt, which stands on specs/Work.antt.
+// specs/Transcript.antt, specs/Counts.antt and specs/Pieces.antt, which stands on specs/Work.antt.
 use account::Account;
 use calendar::Date;
 use moves::Totals;
@@ -18,6 +18,7 @@ ghost use Rattle.printing.specs.Printing.{Wrote};
 ghost use Rattle.transcript.specs.Transcript.{Written};
 ghost use Rattle.transcript.specs.Work.{headLine, headClosing};
 ghost use Rattle.transcript.specs.Pieces.{noTerms, startOf, Begun, Piece};
+ghost use Rattle.transcript.specs.Counts.{CountsSuffice};
 
 // How far a text is printed.
 pub struct Progress {
@@ -64,6 +65,11 @@ fn put_closing(out: &mut [u8], at: usize, s: Totals) -> usize
 }
 
 // ---- the text
+
+// The definitions of the lines and pieces count events down, and there are fewer events than bytes.
+pub fn counts_suffice()
+    ensures { λ _. ⌜ CountsSuffice ⌝ }
+{}
 
 // The lines of the events, while there is room for one and for the last line, and the last line.
 fn put_events(text: &[u8], p: Progress, out: &mut [u8]) -> Progress

@@ -1,62 +1,83 @@
 -- `months::summary` meets its contract: off the record, and so in the ledger's terms.
 -- Assumes nothing.
-use mathlib.Core.Path.{_∙_}
+use mathlib.Core.Path.{_≡_, sym, _∙_}
+use mathlib.Core.Bool.{true}
 use borrow.Author.Needs.{needs}
-use Rattle.months.proofs.Span.{month-small, summary-none, summary-some}
+use borrow.Author.Tests.{not-true, not-false}
+use Rattle.moves.specs.Moves.{isAccount}
+use Rattle.moves.proofs.Early.{in-reach}
+use Rattle.months.proofs.Span.{month-small, summary-other, summary-none, summary-some}
 use Rattle.months.proofs.Agrees.{summary-made}
 use Rattle.months.proofs.summary.Statement.{statement}
 use Rattle.months.proofs.summary.Tie as tie
 
-days-of-requires : tie.Need-days-of-requires
-days-of-requires c κs = search needs
+account-is : (c : tie.Else1) → let a = c .before .before .before .before .args in isAccount (a .a .terms) (a .a .totals) ≡ true
+account-is c = sym (c .before .is-account .ensures) ∙ not-false _ (c .if1 .left)
+
+is-account-requires : tie.Need-is-account-requires
+is-account-requires c κs = search needs
 
 nothing-requires : tie.Need-nothing-requires
 nothing-requires c κs = search needs
 
 returns : tie.Need-returns
 returns c =
-    let d = c .before .before .before in
-    let a = d .before .before .before .before .args in
-    let e = c .nothing .ensures ∙ summary-none (a .a) (a .m) _ (d .days-of .ensures) (c .before .if1 .taken) in
+    let d = c .before .before in
+    let a = d .before .before .before .args in
+    let e = c .nothing .ensures ∙ summary-other (a .a) (a .m) (sym (d .is-account .ensures) ∙ not-true _ (c .before .if1 .taken)) in
     (e, λ t es h. e ∙ summary-made (a .a) (a .m) t es h)
 
-held-requires : tie.Need-held-requires
-held-requires c κs = search needs
+days-of-requires : tie.Need-days-of-requires
+days-of-requires c κs = search needs
+
+nothing-requires-2 : tie.Need-nothing-requires-2
+nothing-requires-2 c κs = search needs
+
+returns-2 : tie.Need-returns-2
+returns-2 c =
+    let d = c .before .before .before in
+    let i = d .before .before in
+    let a = i .before .before .before .before .args in
+    let e = c .nothing2 .ensures ∙ summary-none (a .a) (a .m) _ (d .days-of .ensures) (account-is i) (c .before .if2 .taken) in
+    (e, λ t es h. e ∙ summary-made (a .a) (a .m) t es h)
 
 paid-in-requires : tie.Need-paid-in-requires
-paid-in-requires c κs = search needs
+paid-in-requires c κs = in-reach _ _ (account-is (c .before .before .before .before .before)) .count
 
 used-in-requires : tie.Need-used-in-requires
 used-in-requires c κs = search needs
 
 charges-in-requires : tie.Need-charges-in-requires
 charges-in-requires c κs =
-    let f = c .before .before .before .before .before .before in
-    month-small _ _ _ (f .before .before .days-of .ensures) (f .if1 .left)
+    let f = c .before .before .before .before .before in
+    month-small _ _ _ (f .before .before .days-of .ensures) (f .if2 .left)
 
 figures-requires : tie.Need-figures-requires
 figures-requires c κs = search needs
 
-returns-2 : tie.Need-returns-2
-returns-2 c =
+returns-3 : tie.Need-returns-3
+returns-3 c =
     let u = c .before .before .before in
     let p = u .before .before in
-    let f = p .before .before .before in
+    let f = p .before .before in
     let d = f .before .before in
-    let a = d .before .before .before .before .args in
-    let e = (rw (c .before .charges-in .ensures, u .used-in .ensures .0, p .paid-in .ensures, p .before .held .ensures) at (c .figures .ensures)) ∙ summary-some (a .a) (a .m) _ (d .days-of .ensures) (f .if1 .left) in
+    let i = d .before .before in
+    let a = i .before .before .before .before .args in
+    let e = (rw (c .before .charges-in .ensures, u .used-in .ensures .0, p .paid-in .ensures) at (c .figures .ensures)) ∙ summary-some (a .a) (a .m) _ (d .days-of .ensures) (account-is i) (f .if2 .left) in
     (e, λ t es h. e ∙ summary-made (a .a) (a .m) t es h)
 
 pub summary-spec : {M : Type 1} → statement M
 summary-spec =
     tie.close
     (tie.spec
-    days-of-requires
+    is-account-requires
     nothing-requires
     returns
-    held-requires
+    days-of-requires
+    nothing-requires-2
+    returns-2
     paid-in-requires
     used-in-requires
     charges-in-requires
     figures-requires
-    returns-2)
+    returns-3)

@@ -39,7 +39,7 @@ loop-less c = let e = read-as (c .before .before .before) in omega (arith, e .1,
 loop-again : tie.Need-loop-again Inv-loop μ-loop
 loop-again c =
     let e = read-as (c .before .before .before) in
-    turns _ _ _ _ _ (c .before .before .before .before .before .before .loop .inv) _ _ _ (e .0) (e .1) (e .2) (c .before .post-by-value .ensures .account)
+    turns _ _ _ _ _ (c .before .before .before .before .before .before .loop .inv) _ _ _ (e .0) (e .2) (c .before .post-by-value .ensures .account)
 
 enum-told : tie.Need-enum-told Inv-loop μ-loop
 enum-told c = search needs

@@ -364,13 +364,11 @@ pub fn run(list: &List, lent_account: &mut Lent, mut stats: Option<&mut CallStat
                 if let Some(s) = stats.as_deref_mut() {
                     s.figures += 1;
                 }
-                if let Some(ledger) = &head.ledger {
-                    for month in (0..=summary::LAST_MONTH).chain([*far]) {
-                        let good = figures(&summary::summary(ledger, month));
-                        let got = lent_account.summary(month);
-                        if good != got {
-                            return differs(i, format!("month {month}: reference {good:?}, tested {got:?}"));
-                        }
+                for month in (0..=summary::LAST_MONTH).chain([*far]) {
+                    let good = figures(&head.summary(month));
+                    let got = lent_account.summary(month);
+                    if good != got {
+                        return differs(i, format!("month {month}: reference {good:?}, tested {got:?}"));
                     }
                 }
             }

@@ -1,4 +1,4 @@
--- `moves::guard::is_account` meets its contract: one test that fails is enough, and the last return has them all.
+-- `moves::is_account` meets its contract: one test that fails is enough, and the last return has them all.
 -- Assumes nothing.
 use mathlib.Core.Path.{_≡_, sym, _∙_}
 use mathlib.Core.Bool.{and-false}
@@ -10,8 +10,8 @@ use Rattle.terms.specs.Terms.{termsCode}
 use Rattle.terms.specs.declared.Terms.{Terms}
 use Rattle.moves.specs.Moves.{most, isAccount}
 use Rattle.moves.specs.declared.Totals.{Totals}
-use Rattle.moves.proofs.guard.is_account.Statement.{statement}
-use Rattle.moves.proofs.guard.is_account.Tie as tie
+use Rattle.moves.proofs.is_account.Statement.{statement}
+use Rattle.moves.proofs.is_account.Tie as tie
 
 check-requires : tie.Need-check-requires
 check-requires c κs = search needs
