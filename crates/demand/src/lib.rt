@@ -1,5 +1,6 @@
 // Demand 3, one theorem: over every list of posting calls, by the promises of the calls that run.
-// It uses the posting and the reading calls' promises and the ledger's definitions.
+// It uses the promises of `account::open`, of the posting and of the reading calls, and the ledger's definitions. proofs/Contracts.antt has
+// the same over the contracts of these calls as the toolchain compiled them.
 ghost use mathlib.Core.Path.{_≡_};
 ghost use mathlib.Core.Bool.{true};
 ghost use Rattle.terms.specs.Terms.{validTerms};
