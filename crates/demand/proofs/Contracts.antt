@@ -159,8 +159,8 @@ module _ {M : Type 1} (𝓤 : URA M) (H : Heap 𝓤) (A : Atoms 𝓤) (at-mem : 
 
   -- Demand 3: whatever the contracts leave to be seen of a list of calls, from what `account::open` leaves of valid terms on, is as demand 3
   -- claims.
-  pub contracts-hold : (t : Terms) → validTerms t ≡ true → (cs : List Call) (vs : List Seen) → ent 𝓤 (ex 𝓤 (λ (o : Opened). sep 𝓤 (OpenSays t o) (CallsSay (o .account) cs vs))) (fact 𝓤 (CallsHold t opening [] cs vs))
+  pub contracts-hold : (t : Terms) → validTerms t ≡ true → (cs : List Call) (vs : List Seen) → ent 𝓤 (ex 𝓤 (λ (o : Opened). sep 𝓤 (OpenSays t o) (CallsSay (o .account) cs vs))) (fact 𝓤 (CallsHold t opening cs vs))
   contracts-hold t v cs vs =
       exE 𝓤 _ (λ o.
       via 𝓤 _ (both (IsOpened t o) (RunsFrom (o .account) cs vs) (open-promises t o) (runs cs vs (o .account)))
-      (fact-mono 𝓤 _ (CallsHold t opening [] cs vs) (λ q. demand-3 t v .every cs vs (o, q .0, q .1))))
+      (fact-mono 𝓤 _ (CallsHold t opening cs vs) (λ q. demand-3 t v .every cs vs (o, q .0, q .1))))

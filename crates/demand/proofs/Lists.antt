@@ -17,10 +17,10 @@ use Rattle.ledger.specs.Entries.{usageDay, estimateCost}
 use Rattle.ledger.specs.Rules.{Ledger}
 use Rattle.ledger.specs.Sums.{settled, standing}
 use Rattle.ledger.specs.Ledger.{opening, ledgerStep, ledgerAfter}
-use Rattle.ledger.specs.Calls.{Call, single, row, Back, answered, written, fed, ledgerCodes, ledgerBack}
+use Rattle.ledger.specs.Calls.{Call, single, row, Back, answered, written, fed, ledgerCalled, ledgerCodes, ledgerBack}
 use Rattle.ledger.specs.Invariant.{Invariant}
 use Rattle.ledger.proofs.Cases.{decide}
-use Rattle.ledger.proofs.Rows.{after-both, code-at}
+use Rattle.ledger.proofs.Rows.{code-at}
 use Rattle.ledger.proofs.Identity.{settled-is}
 use Rattle.ledger.proofs.Disconnect.{disconnect-granted}
 use Rattle.ledger.proofs.Standing.{standing-none}
@@ -42,7 +42,7 @@ module _ (t : Terms) (a : Account) (l : Ledger) (s : Stands t a l) where
   -- what the call hands back is the ledger's, and the account that it leaves stands for the ledger fed its events
   record Follows (c : Call) (r : Back) (b : Account) : Type 0 where
     back : r ≡ ledgerBack t l c
-    stands : Stands t b (ledgerAfter t l (fed c))
+    stands : Stands t b (ledgerCalled t l c)
 
   follows : (c : Call) (r : Back) (b : Account) → Called a c r b → Follows c r b
   unfolding fed accountAfter ledgerAfter
@@ -101,25 +101,25 @@ code-back t l c es e rest h =
     ap (λ (k : List ℕ). getD k (length es) 16) (codes-back t l c ∙ ap (λ (k : List Event). ledgerCodes t l k ++ spare c) h)
     ∙ code-at t es e rest (spare c) l
 
-call-holds : (t : Terms) (l : Ledger) (c : Call) (v : Seen) → Invariant t (ledgerAfter t l (fed c)) → v ≡ shows t (ledgerAfter t l (fed c)) (ledgerBack t l c) → CallHolds t l c v
+call-holds : (t : Terms) (l : Ledger) (c : Call) (v : Seen) → Invariant t (ledgerCalled t l c) → v ≡ shows t (ledgerCalled t l c) (ledgerBack t l c) → CallHolds t l c v
 call-holds t l c v q h = record {
   seen = h;
-  identity = rw h (settled-is t (ledgerAfter t l (fed c)) q);
-  exactly = rw h (exact t (ledgerAfter t l (fed c)) q);
+  identity = rw h (settled-is t (ledgerCalled t l c) q);
+  exactly = rw h (exact t (ledgerCalled t l c) q);
   disconnects = λ es e rest g k d f. rw (h, code-back t l c es e rest g) (disconnect-granted t (ledgerAfter t l es) e (eqb-true (e .sort) 10 k) d f);
 }
 
 -- ---- every list of calls
 
-pub calls-hold : (t : Terms) (l : Ledger) (es : List Event) (cs : List Call) (vs : List Seen) (a : Account) → Stands t a (ledgerAfter t l es) → RunsFrom a cs vs → CallsHold t l es cs vs
-calls-hold t l es [] [] a s q = tt
-calls-hold t l es [] (v ∷ vs) a s q = absurd q
-calls-hold t l es (c ∷ cs) [] a s q = absurd q
-calls-hold t l es (c ∷ cs) (v ∷ vs) a s (b, p, r, q) =
-    let before : Ledger = ledgerAfter t l es in
-    let f : Follows t a before s c (v .back) b = follows t a before s c (v .back) b p in (
-      call-holds t before c v (f .stands .invariant) (seen-is t b (ledgerAfter t before (fed c)) (f .stands) v (ledgerBack t before c) (f .back) r),
-      calls-hold t l (es ++ fed c) cs vs b (rw (after-both t es (fed c) l) (f .stands)) q,
+pub calls-hold : (t : Terms) (cs : List Call) (vs : List Seen) (a : Account) (l : Ledger) → Stands t a l → RunsFrom a cs vs → CallsHold t l cs vs
+calls-hold t [] [] a l s q = tt
+calls-hold t [] (v ∷ vs) a l s q = absurd q
+calls-hold t (c ∷ cs) [] a l s q = absurd q
+calls-hold t (c ∷ cs) (v ∷ vs) a l s (b, p, r, q) =
+    let f : Follows t a l s c (v .back) b = follows t a l s c (v .back) b p in
+    (
+      call-holds t l c v (f .stands .invariant) (seen-is t b (ledgerCalled t l c) (f .stands) v (ledgerBack t l c) (f .back) r),
+      calls-hold t cs vs b (ledgerCalled t l c) (f .stands) q,
     )
 
 -- ---- and something is seen
@@ -154,8 +154,7 @@ runs-of (row es buffer ∷ cs) a =
 -- ---- from what `account::open` promises
 
 pub demand-3 : (t : Terms) → validTerms t ≡ true → Demand3 t
-unfolding ledgerAfter
 demand-3 t v = record {
-  every = λ cs vs q. calls-hold t opening [] cs vs (q .0 .account) (rw (q .1) (stands-fresh t v)) (q .2);
+  every = λ cs vs q. calls-hold t cs vs (q .0 .account) opening (rw (q .1) (stands-fresh t v)) (q .2);
   some = λ cs. let r = runs-of cs (openOf t .account) in (r .0, (openOf t, refl, r .1));
 }

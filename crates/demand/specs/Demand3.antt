@@ -15,7 +15,7 @@ use Rattle.ledger.specs.Entries.{warned, barred, usageDay, estimateCost}
 use Rattle.ledger.specs.Rules.{Ledger, dayRefused, isFull}
 use Rattle.ledger.specs.Sums as sums
 use Rattle.ledger.specs.Ledger.{opening, ledgerAfter}
-use Rattle.ledger.specs.Calls.{Call, Back, answered, written, fed, ledgerBack}
+use Rattle.ledger.specs.Calls.{Call, Back, answered, written, fed, ledgerCalled, ledgerBack}
 use Rattle.demand.specs.Calls.{Seen, Runs}
 
 -- what the ledger shows after a call
@@ -42,35 +42,35 @@ MayCut t l e =
     × (warned (e .day) (l .list) ≡ true)
     × (barred t (e .day) (l .list) ≡ false)
 
--- Of one call c, of which v is seen. `before` is the ledger just before it; the ledger after it is fed the call's events.
-pub record CallHolds (t : Terms) (before : Ledger) (c : Call) (v : Seen) : Type 0 where
+-- Of one call c, of which v is seen: l is the ledger just before it.
+pub record CallHolds (t : Terms) (l : Ledger) (c : Call) (v : Seen) : Type 0 where
   -- "Every code and value returned, and the balance, unpaid plan and service after it, are those of document 01's ledger for that list. The
   -- settled amount is .. added up from the events the ledger accepted."
-  pub seen : v ≡ shows t (ledgerAfter t before (fed c)) (ledgerBack t before c)
+  pub seen : v ≡ shows t (ledgerCalled t l c) (ledgerBack t l c)
   -- "The balance less the unpaid plan .. is otherwise lower by exactly what those estimates cost."
   pub identity : v .balance -ℤ pos (v .plan) +ℤ pos (v .standing) ≡ v .settled
   -- "equals it exactly when no usage day stands on an estimate costing more than zero"
-  pub exactly : (v .balance -ℤ pos (v .plan) ≡ v .settled) ↔ ((u : ℕ) → estimateCost (usageDay t (ledgerAfter t before (fed c) .list) u) ≡ 0)
+  pub exactly : (v .balance -ℤ pos (v .plan) ≡ v .settled) ↔ ((u : ℕ) → estimateCost (usageDay t (ledgerCalled t l c .list) u) ≡ 0)
   -- "A disconnect request in the list that passes the day and fullness checks is granted exactly when, just before it, .."; es are the events
   -- of the same call before it.
   pub disconnects : (es : List Event) (e : Event) (rest : List Event)
       → fed c ≡ es ++ (e ∷ rest)
       → isDisconnect e ≡ true
-      → dayRefused (ledgerAfter t before es) e ≡ false
-      → isFull (ledgerAfter t before es) ≡ false
+      → dayRefused (ledgerAfter t l es) e ≡ false
+      → isFull (ledgerAfter t l es) ≡ false
       → (getD (codesIn (v .back)) (length es) 16 ≡ 0)
-      ↔ MayCut t (ledgerAfter t before es) e
+      ↔ MayCut t (ledgerAfter t l es) e
 
--- Of every call in turn, from a ledger l that was fed the events es of the calls before: "fed the terms that made the account, then every event
--- in the order of posting".
-abbrev pub CallsHold : Terms → Ledger → List Event → List Call → List Seen → Type 0
-CallsHold t l es [] [] = Unit
-CallsHold t l es [] (v ∷ vs) = ⊥
-CallsHold t l es (c ∷ cs) [] = ⊥
-CallsHold t l es (c ∷ cs) (v ∷ vs) = CallHolds t (ledgerAfter t l es) c v × CallsHold t l (es ++ fed c) cs vs
+-- Of every call in turn, each from the ledger after the calls before it: "fed the terms that made the account, then every event in the order of
+-- posting".
+abbrev pub CallsHold : Terms → Ledger → List Call → List Seen → Type 0
+CallsHold t l [] [] = Unit
+CallsHold t l [] (v ∷ vs) = ⊥
+CallsHold t l (c ∷ cs) [] = ⊥
+CallsHold t l (c ∷ cs) (v ∷ vs) = CallHolds t l c v × CallsHold t (ledgerCalled t l c) cs vs
 
 pub record Demand3 (t : Terms) : Type 0 where
   -- "This holds for every list of events of any kinds .., refused ones included, posted from a fresh account singly, in rows or both."
-  pub every : (cs : List Call) (vs : List Seen) → Runs t cs vs → CallsHold t opening [] cs vs
+  pub every : (cs : List Call) (vs : List Seen) → Runs t cs vs → CallsHold t opening cs vs
   -- and of every list something is seen: the promises contradict each other nowhere
   pub some : (cs : List Call) → (vs : List Seen) × Runs t cs vs

@@ -1,4 +1,4 @@
--- Lists of events in the ledger, and the codes of a row by their places.
+-- The codes of a row by their places.
 -- Assumes nothing.
 use Prim.Native.Nat.{ℕ}
 use mathlib.Core.Path.{_≡_, refl}
@@ -9,11 +9,6 @@ use Rattle.ledger.specs.declared.Event.{Event}
 use Rattle.ledger.specs.Rules.{Ledger}
 use Rattle.ledger.specs.Ledger.{ledgerStep, ledgerAfter}
 use Rattle.ledger.specs.Calls.{ledgerCodes}
-
-pub after-both : (t : Terms) (es fs : List Event) (l : Ledger) → ledgerAfter t l (es ++ fs) ≡ ledgerAfter t (ledgerAfter t l es) fs
-unfolding ledgerAfter
-after-both t [] fs l = refl
-after-both t (e ∷ es) fs l = after-both t es fs (ledgerStep t l e .ledger)
 
 -- the code at an event's place is the ledger's answer to it, just before it
 pub code-at : (t : Terms) (es : List Event) (e : Event) (fs : List Event) (more : List ℕ) (l : Ledger) → getD (ledgerCodes t l (es ++ (e ∷ fs)) ++ more) (length es) 16 ≡ ledgerStep t (ledgerAfter t l es) e .answer .code

@@ -8,7 +8,7 @@ use Rattle.terms.specs.declared.Terms.{Terms}
 use Rattle.ledger.specs.declared.Event.{Event}
 use Rattle.ledger.specs.declared.Answer.{Answer}
 use Rattle.ledger.specs.Rules.{Ledger}
-use Rattle.ledger.specs.Ledger.{ledgerStep}
+use Rattle.ledger.specs.Ledger.{ledgerStep, ledgerAfter}
 
 -- A posting call: one event, or a row of events with the buffer lent to it.
 pub data Call : Type 0 where
@@ -25,6 +25,10 @@ pub data Back : Type 0 where
 unfoldable pub fed : Call → List Event
 fed (single e) = e ∷ []
 fed (row es buffer) = cond (ltb (length buffer) (length es)) [] es
+
+-- the ledger after a call
+abbrev pub ledgerCalled : Terms → Ledger → Call → Ledger
+ledgerCalled t l c = ledgerAfter t l (fed c)
 
 -- "its code bytes are the codes compared"
 unfoldable pub ledgerCodes : Terms → Ledger → List Event → List ℕ
