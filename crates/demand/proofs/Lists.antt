@@ -1,6 +1,7 @@
 -- Demand 3: by induction over the calls, from any account that stands for a ledger.
 -- Assumes nothing.
 use Prim.Native.Nat.{ℕ}
+use native.Mathlib.Omega.{arith}
 use mathlib.Core.Path.{_≡_, refl, sym, ap, _∙_}
 use mathlib.Core.Bool.{true, false, cond}
 use mathlib.Core.List.{List, [], _∷_, _++_}
@@ -9,7 +10,7 @@ use lib.ListN.{length, getD, drop}
 use lib.Dec.{ltb}
 use lib.IntN.{ℤ, pos, negℤ, natAbs, _+ℤ_, _-ℤ_, +ℤ-idl, +ℤ-idr, +ℤ-invl, +ℤ-assoc}
 use borrow.Author.Tests.{eqb-true}
-use Rattle.terms.specs.Terms.{validTerms}
+use Rattle.terms.specs.Terms.{validTerms, termsCode}
 use Rattle.terms.specs.declared.Terms.{Terms}
 use Rattle.ledger.specs.declared.Event.{Event}
 use Rattle.ledger.specs.declared.Answer.{Answer}
@@ -24,8 +25,9 @@ use Rattle.ledger.proofs.Rows.{code-at}
 use Rattle.ledger.proofs.Identity.{settled-is}
 use Rattle.ledger.proofs.Disconnect.{disconnect-granted}
 use Rattle.ledger.proofs.Standing.{standing-none}
-use Rattle.account.specs.Head.{stepOf, openOf}
+use Rattle.account.specs.Head.{stepOf, openOf, IsOpened}
 use Rattle.account.specs.declared.Account.{Account}
+use Rattle.account.specs.declared.Opened.{Opened}
 use Rattle.refinement.specs.Lists.{accountAfter}
 use Rattle.refinement.specs.Agree.{Stands}
 use Rattle.refinement.proofs.Lists.{stands-fresh, stands-after}
@@ -33,7 +35,7 @@ use Rattle.posting.specs.Posting.{answerOf, rowOf}
 use Rattle.posting.proofs.Ledgers.{answer-back, row-back, row-account, posts, posts-row}
 use Rattle.readings.specs.Readings.{balanceOf, settledOf}
 use Rattle.readings.proofs.After.{balance-reading, settled-reading, is-balance, is-plan, is-service, is-settled, is-estimates}
-use Rattle.demand.specs.Calls.{Seen, Reads, Called, RunsFrom, Runs}
+use Rattle.demand.specs.Calls.{Readings, Seen, Reads, Called, RunsFrom, Runs}
 use Rattle.demand.specs.Demand3.{shows, codesIn, CallHolds, CallsHold, Demand3}
 
 -- ---- one call, from an account that stands for a ledger
@@ -56,14 +58,14 @@ module _ (t : Terms) (a : Account) (l : Ledger) (s : Stands t a l) where
   }
 
   -- what the readings of the account show
-  seen-is : (v : Seen) (r : Back) → v .back ≡ r → Reads (a .totals) v → v ≡ shows t l r
-  seen-is v r h q =
-      let balance : v .balance ≡ l .balance = q .balance .totals ∙ balance-reading t a l s in
-      let plan : v .plan ≡ l .plan = q .plan .totals ∙ s .agree .sums .plan in
-      let on : v .on ≡ l .on = q .on .totals ∙ s .agree .sums .on in
+  shows-is : (r : Readings) → Reads (a .totals) r → r ≡ shows t l
+  shows-is r q =
+      let balance : r .balance ≡ l .balance = q .balance .totals ∙ balance-reading t a l s in
+      let plan : r .plan ≡ l .plan = q .plan .totals ∙ s .agree .sums .plan in
+      let on : r .on ≡ l .on = q .on .totals ∙ s .agree .sums .on in
       let settled-read = q .settled .totals ∙ settled-reading t a l s in
       let standing-read = q .standing .totals ∙ s .agree .sums .standing in
-      λ i. record { back = h i; balance = balance i; plan = plan i; on = on i; settled = settled-read i; standing = standing-read i }
+      λ i. record { balance = balance i; plan = plan i; on = on i; settled = settled-read i; standing = standing-read i }
 
 -- ---- what the ledger shows holds together
 
@@ -96,17 +98,18 @@ codes-back t l (row es buffer) = decide (ltb (length buffer) (length es)) (λ y.
 
 -- the code of an event, at its place
 code-back : (t : Terms) (l : Ledger) (c : Call) (es : List Event) (e : Event) (rest : List Event) → fed c ≡ es ++ (e ∷ rest)
-    → getD (codesIn (ledgerBack t l c)) (length es) 16 ≡ ledgerStep t (ledgerAfter t l es) e .answer .code
+    → getD (codesIn (ledgerBack t l c)) (length es) 1 ≡ ledgerStep t (ledgerAfter t l es) e .answer .code
 code-back t l c es e rest h =
-    ap (λ (k : List ℕ). getD k (length es) 16) (codes-back t l c ∙ ap (λ (k : List Event). ledgerCodes t l k ++ spare c) h)
-    ∙ code-at t es e rest (spare c) l
+    ap (λ (k : List ℕ). getD k (length es) 1) (codes-back t l c ∙ ap (λ (k : List Event). ledgerCodes t l k ++ spare c) h)
+    ∙ code-at t es e rest (spare c) 1 l
 
-call-holds : (t : Terms) (l : Ledger) (c : Call) (v : Seen) → Invariant t (ledgerCalled t l c) → v ≡ shows t (ledgerCalled t l c) (ledgerBack t l c) → CallHolds t l c v
-call-holds t l c v q h = record {
-  seen = h;
+call-holds : (t : Terms) (l : Ledger) (c : Call) (v : Seen) → Invariant t (ledgerCalled t l c) → v .back ≡ ledgerBack t l c → v .after ≡ shows t (ledgerCalled t l c) → CallHolds t l c v
+call-holds t l c v q b h = record {
+  back = b;
+  after = h;
   identity = rw h (settled-is t (ledgerCalled t l c) q);
   exactly = rw h (exact t (ledgerCalled t l c) q);
-  disconnects = λ es e rest g k d f. rw (h, code-back t l c es e rest g) (disconnect-granted t (ledgerAfter t l es) e (eqb-true (e .sort) 10 k) d f);
+  disconnects = λ es e rest g k d f. rw (b, code-back t l c es e rest g) (disconnect-granted t (ledgerAfter t l es) e (eqb-true (e .sort) 10 k) d f);
 }
 
 -- ---- every list of calls
@@ -116,20 +119,19 @@ calls-hold t [] [] a l s q = tt
 calls-hold t [] (v ∷ vs) a l s q = absurd q
 calls-hold t (c ∷ cs) [] a l s q = absurd q
 calls-hold t (c ∷ cs) (v ∷ vs) a l s (b, p, r, q) =
-    let f : Follows t a l s c (v .back) b = follows t a l s c (v .back) b p in
-    (
-      call-holds t l c v (f .stands .invariant) (seen-is t b (ledgerCalled t l c) (f .stands) v (ledgerBack t l c) (f .back) r),
+    let f : Follows t a l s c (v .back) b = follows t a l s c (v .back) b p in (
+      call-holds t l c v (f .stands .invariant) (f .back) (shows-is t b (ledgerCalled t l c) (f .stands) (v .after) r),
       calls-hold t cs vs b (ledgerCalled t l c) (f .stands) q,
     )
 
 -- ---- and something is seen
 
-shown : Account → Back → Seen
-shown a r = record { back = r; balance = balanceOf (a .totals); plan = a .totals .plan; on = a .totals .on; settled = settledOf (a .totals); standing = a .totals .standing }
+read : Account → Readings
+read a = record { balance = balanceOf (a .totals); plan = a .totals .plan; on = a .totals .on; settled = settledOf (a .totals); standing = a .totals .standing }
 
-shown-reads : (a : Account) (r : Back) → Reads (a .totals) (shown a r)
-unfolding shown
-shown-reads a r = record {
+reads : (a : Account) → Reads (a .totals) (read a)
+unfolding read
+reads a = record {
   balance = is-balance (a .totals) _ refl;
   plan = is-plan (a .totals);
   on = is-service (a .totals);
@@ -138,23 +140,28 @@ shown-reads a r = record {
 }
 
 runs-of : (cs : List Call) (a : Account) → (vs : List Seen) × RunsFrom a cs vs
-unfolding shown
 runs-of [] a = ([], tt)
 runs-of (single e ∷ cs) a =
     let b : Account = stepOf a e .account in
     let r : Answer = answerOf (stepOf a e) in
     let more = runs-of cs b in
-    (shown b (answered r) ∷ more .0, (b, (r, posts a e b r refl refl, refl), shown-reads b (answered r), more .1))
+    (record { back = answered r; after = read b } ∷ more .0, (b, (r, posts a e b r refl refl, refl), reads b, more .1))
 runs-of (row es buffer ∷ cs) a =
     let w = rowOf a es buffer in
     let more = runs-of cs (w .account) in
-    let r : Back = written (w .answer) (w .codes) in
-    (shown (w .account) r ∷ more .0, (w .account, (w .answer, w .codes, posts-row a es buffer (w .account) (w .codes) (w .answer) refl refl refl, refl), shown-reads (w .account) r, more .1))
+    (record { back = written (w .answer) (w .codes); after = read (w .account) } ∷ more .0, (w .account, (w .answer, w .codes, posts-row a es buffer (w .account) (w .codes) (w .answer) refl refl refl, refl), reads (w .account), more .1))
 
 -- ---- from what `account::open` promises
 
-pub demand-3 : (t : Terms) → validTerms t ≡ true → Demand3 t
-demand-3 t v = record {
-  every = λ cs vs q. calls-hold t cs vs (q .0 .account) opening (rw (q .1) (stands-fresh t v)) (q .2);
-  some = λ cs. let r = runs-of cs (openOf t .account) in (r .0, (openOf t, refl, r .1));
+made-valid : (t : Terms) (o : Opened) → IsOpened t o → o .code ≡ 0 → validTerms t ≡ true
+unfolding termsCode
+made-valid t o is z = decide (validTerms t) (λ y. y) (λ f. absurd (let one : _≡_ {A = ℕ} 1 0 = simp f at (sym (ap (λ (x : Opened). x .code) is) ∙ z) in omega arith))
+
+pub demand-3 : (t : Terms) → Demand3 t
+unfolding termsCode
+demand-3 t = record {
+  every = λ first cs vs q.
+      let s : Stands t (q .0 .account) opening = rw (q .1) (stands-fresh t (made-valid t (q .0) (q .1) (q .2))) in
+      (shows-is t (q .0 .account) opening s first (q .3), calls-hold t cs vs (q .0 .account) opening s (q .4));
+  some = λ v cs. let r = runs-of cs (openOf t .account) in (read (openOf t .account), r .0, (openOf t, refl, simp v, reads (openOf t .account), r .1));
 }

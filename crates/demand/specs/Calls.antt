@@ -14,22 +14,26 @@ use Rattle.account.specs.declared.Opened.{Opened}
 use Rattle.posting.specs.Posting.{Posts, PostsRow}
 use Rattle.readings.specs.Readings.{IsBalance, IsPlan, IsService, IsSettled, IsEstimates}
 
--- What is seen of a call: what it hands back, and the readings after it.
-pub record Seen : Type 0 where
-  pub back : Back
+-- The readings of an account.
+pub record Readings : Type 0 where
   pub balance : ℤ
   pub plan : ℕ
   pub on : Bool
   pub settled : ℤ
   pub standing : ℕ
 
+-- What is seen of a call: what it hands back, and the readings after it.
+pub record Seen : Type 0 where
+  pub back : Back
+  pub after : Readings
+
 -- by the promises of the reading calls, of an account with these totals
-pub record Reads (s : Totals) (v : Seen) : Type 0 where
-  pub balance : IsBalance s (v .balance)
-  pub plan : IsPlan s (v .plan)
-  pub on : IsService s (v .on)
-  pub settled : IsSettled s (v .settled)
-  pub standing : IsEstimates s (v .standing)
+pub record Reads (s : Totals) (r : Readings) : Type 0 where
+  pub balance : IsBalance s (r .balance)
+  pub plan : IsPlan s (r .plan)
+  pub on : IsService s (r .on)
+  pub settled : IsSettled s (r .settled)
+  pub standing : IsEstimates s (r .standing)
 
 -- by the promises of `post` and `post_row`: the call that gets account a may leave account b and hand back r
 abbrev pub Called : Account → Call → Back → Account → Type 0
@@ -41,8 +45,8 @@ abbrev pub RunsFrom : Account → List Call → List Seen → Type 0
 RunsFrom a [] [] = Unit
 RunsFrom a [] (v ∷ vs) = ⊥
 RunsFrom a (c ∷ cs) [] = ⊥
-RunsFrom a (c ∷ cs) (v ∷ vs) = (b : Account) × Called a c (v .back) b × Reads (b .totals) v × RunsFrom b cs vs
+RunsFrom a (c ∷ cs) (v ∷ vs) = (b : Account) × Called a c (v .back) b × Reads (b .totals) (v .after) × RunsFrom b cs vs
 
--- "the first a fresh one": by the promise of `account::open`
-abbrev pub Runs : Terms → List Call → List Seen → Type 0
-Runs t cs vs = (o : Opened) × IsOpened t o × RunsFrom (o .account) cs vs
+-- "the first a fresh one": by the promise of `account::open`, where it answers 0. Its readings are first. Else "no account made".
+abbrev pub Runs : Terms → Readings → List Call → List Seen → Type 0
+Runs t first cs vs = (o : Opened) × IsOpened t o × (o .code ≡ 0) × Reads (o .account .totals) first × RunsFrom (o .account) cs vs

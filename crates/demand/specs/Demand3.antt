@@ -7,6 +7,7 @@ use mathlib.Core.Logic.{_↔_}
 use lib.IntN.{pos, _+ℤ_, _-ℤ_}
 use lib.ListN.{length, getD}
 use lib.Signed.{ltZ}
+use Rattle.terms.specs.Terms.{validTerms}
 use Rattle.terms.specs.declared.Terms.{Terms}
 use Rattle.ledger.specs.declared.Event.{Event}
 use Rattle.ledger.specs.declared.Answer.{Answer}
@@ -16,12 +17,11 @@ use Rattle.ledger.specs.Rules.{Ledger, dayRefused, isFull}
 use Rattle.ledger.specs.Sums as sums
 use Rattle.ledger.specs.Ledger.{opening, ledgerAfter}
 use Rattle.ledger.specs.Calls.{Call, Back, answered, written, fed, ledgerCalled, ledgerBack}
-use Rattle.demand.specs.Calls.{Seen, Runs}
+use Rattle.demand.specs.Calls.{Readings, Seen, Runs}
 
--- what the ledger shows after a call
-abbrev pub shows : Terms → Ledger → Back → Seen
-shows t l r = record {
-  back = r;
+-- what the ledger shows
+abbrev pub shows : Terms → Ledger → Readings
+shows t l = record {
   balance = l .balance;
   plan = l .plan;
   on = l .on;
@@ -29,7 +29,7 @@ shows t l r = record {
   standing = sums.standing t (l .list);
 }
 
--- the codes that a call hands back, one an event: the answer's own, or the bytes of the buffer
+-- the codes that a call hands back: its event i has its code at place i
 abbrev pub codesIn : Back → List ℕ
 codesIn (answered r) = r .code ∷ []
 codesIn (written r bytes) = bytes
@@ -46,19 +46,20 @@ MayCut t l e =
 pub record CallHolds (t : Terms) (l : Ledger) (c : Call) (v : Seen) : Type 0 where
   -- "Every code and value returned, and the balance, unpaid plan and service after it, are those of document 01's ledger for that list. The
   -- settled amount is .. added up from the events the ledger accepted."
-  pub seen : v ≡ shows t (ledgerCalled t l c) (ledgerBack t l c)
+  pub back : v .back ≡ ledgerBack t l c
+  pub after : v .after ≡ shows t (ledgerCalled t l c)
   -- "The balance less the unpaid plan .. is otherwise lower by exactly what those estimates cost."
-  pub identity : v .balance -ℤ pos (v .plan) +ℤ pos (v .standing) ≡ v .settled
+  pub identity : v .after .balance -ℤ pos (v .after .plan) +ℤ pos (v .after .standing) ≡ v .after .settled
   -- "equals it exactly when no usage day stands on an estimate costing more than zero"
-  pub exactly : (v .balance -ℤ pos (v .plan) ≡ v .settled) ↔ ((u : ℕ) → estimateCost (usageDay t (ledgerCalled t l c .list) u) ≡ 0)
+  pub exactly : (v .after .balance -ℤ pos (v .after .plan) ≡ v .after .settled) ↔ ((u : ℕ) → estimateCost (usageDay t (ledgerCalled t l c .list) u) ≡ 0)
   -- "A disconnect request in the list that passes the day and fullness checks is granted exactly when, just before it, .."; es are the events
-  -- of the same call before it.
+  -- of the same call before it, so that its code is at their number.
   pub disconnects : (es : List Event) (e : Event) (rest : List Event)
       → fed c ≡ es ++ (e ∷ rest)
       → isDisconnect e ≡ true
       → dayRefused (ledgerAfter t l es) e ≡ false
       → isFull (ledgerAfter t l es) ≡ false
-      → (getD (codesIn (v .back)) (length es) 16 ≡ 0)
+      → (getD (codesIn (v .back)) (length es) 1 ≡ 0)
       ↔ MayCut t (ledgerAfter t l es) e
 
 -- Of every call in turn, each from the ledger after the calls before it: "fed the terms that made the account, then every event in the order of
@@ -71,6 +72,6 @@ CallsHold t l (c ∷ cs) (v ∷ vs) = CallHolds t l c v × CallsHold t (ledgerCa
 
 pub record Demand3 (t : Terms) : Type 0 where
   -- "This holds for every list of events of any kinds .., refused ones included, posted from a fresh account singly, in rows or both."
-  pub every : (cs : List Call) (vs : List Seen) → Runs t cs vs → CallsHold t opening cs vs
-  -- and of every list something is seen: the promises contradict each other nowhere
-  pub some : (cs : List Call) → (vs : List Seen) × Runs t cs vs
+  pub every : (first : Readings) (cs : List Call) (vs : List Seen) → Runs t first cs vs → (first ≡ shows t opening) × CallsHold t opening cs vs
+  -- and of every list, from terms within their limits, something is seen
+  pub some : validTerms t ≡ true → (cs : List Call) → (first : Readings) × (vs : List Seen) × Runs t first cs vs
