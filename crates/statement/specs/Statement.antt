@@ -111,7 +111,7 @@ unfoldable pub eventsIn : ℕ → List ℕ → List Event
 eventsIn zero s = []
 eventsIn (suc k) s = eventsBy (eventsIn k) s
 
--- There are fewer events than bytes: `statement::count_suffices`.
+-- There are no more events than bytes, so none is left out: `statement::count_suffices`.
 abbrev pub eventsOf : List ℕ → List Event
 eventsOf s = eventsIn (suc (length s)) s
 

@@ -138,7 +138,7 @@ fn put_months(out: &mut [u8], a: Account) -> usize
 
 // ---- the text
 
-// The definition of a text's events counts them down, and there are fewer events than bytes.
+// The count of events in their definition leaves none out.
 pub fn count_suffices()
     ensures { λ _. ⌜ CountSuffices ⌝ }
 {}

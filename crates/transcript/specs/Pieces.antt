@@ -50,12 +50,12 @@ pieceBy more room s a at count n =
       | broken ↦ reached a at count (n + length (headLine (count + 1) 15 0 (a .totals)) + length (headClosing (a .totals))) true
     ]))
 
--- the same for k events at most
+-- the same, cut off after k events
 unfoldable pub eventsPiece : ℕ → ℕ → List ℕ → Account → ℕ → ℕ → ℕ → Progress
 eventsPiece zero room s a at count n = reached a at count n true
 eventsPiece (suc k) room s a at count n = pieceBy (eventsPiece k room s) room s a at count n
 
--- There are fewer events than bytes: `transcript::counts_suffice`.
+-- There are no more events than bytes, so nothing is cut off: `transcript::counts_suffice`.
 abbrev pub pieceFrom : ℕ → List ℕ → Account → ℕ → ℕ → ℕ → Progress
 pieceFrom room s a at count n = eventsPiece (suc (length s - at)) room s a at count n
 

@@ -64,12 +64,12 @@ linesBy more t l n (b ∷ s) =
       | broken ↦ line n 15 0 (l .balance) (l .plan) ++ closing t l
     ]
 
--- the same for k events at most
+-- the same, cut off after k events
 unfoldable pub eventLines : ℕ → Terms → Ledger → ℕ → List ℕ → List ℕ
 eventLines zero t l n s = []
 eventLines (suc k) t l n s = linesBy (eventLines k t) t l n s
 
--- There are fewer events than bytes: `transcript::counts_suffice`.
+-- There are no more events than bytes, so nothing is cut off: `transcript::counts_suffice`.
 abbrev pub linesOf : Terms → Ledger → ℕ → List ℕ → List ℕ
 linesOf t l n s = eventLines (suc (length s)) t l n s
 

@@ -66,7 +66,7 @@ fn put_closing(out: &mut [u8], at: usize, s: Totals) -> usize
 
 // ---- the text
 
-// The definitions of the lines and pieces count events down, and there are fewer events than bytes.
+// The counts of events in the definitions of the lines and the pieces cut nothing off.
 pub fn counts_suffice()
     ensures { λ _. ⌜ CountsSuffice ⌝ }
 {}
