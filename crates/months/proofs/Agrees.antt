@@ -3,10 +3,10 @@
 use Prim.Native.Nat.{ℕ, suc, _+_, _*_, _≤_, _<_}
 use native.Mathlib.Omega.{arith}
 use mathlib.Core.Path.{_≡_, refl, sym, _∙_}
-use mathlib.Core.Bool.{Bool, true, false, not, _&&_, true≢false}
+use mathlib.Core.Bool.{Bool, true, false, not, _&&_, or-true, true≢false}
 use mathlib.Core.List.{List}
 use lib.ListN.{getD}
-use lib.Dec.{leb}
+use lib.Dec.{ltb, leb}
 use borrow.Author.Tests.{le-leb, leb-true, leb-false, ne-eqb}
 use Rattle.calendar.specs.Calendar.{isDay, opens}
 use Rattle.calendar.specs.Days.{anyDay}
@@ -14,20 +14,23 @@ use Rattle.calendar.proofs.Laws.{month-limit}
 use Rattle.terms.specs.Terms.{validTerms}
 use Rattle.terms.specs.declared.Terms.{Terms}
 use Rattle.ledger.specs.declared.Event.{Event}
+use Rattle.ledger.specs.declared.Summary.{Summary}
 use Rattle.ledger.specs.Entries.{Entry, payments, payment, reversed, UsageDay, blank, estimated, metered, usageDay, estimateCost}
 use Rattle.ledger.specs.Rules.{Ledger}
 use Rattle.ledger.specs.Ledger.{ledgerOf}
-use Rattle.ledger.specs.Months.{monthOf, inMonth, hasDays, paymentsIn, isReversed, usageIn, meteredWh, meteredCost, estimatedWh, chargesIn, ledgerSummary}
+use Rattle.ledger.specs.Months.{monthOf, inMonth, hasDays, paymentsIn, isReversed, usageIn, meteredWh, meteredCost, estimatedWh, chargesIn, noSummary, ledgerSummary}
 use Rattle.ledger.proofs.Cases.{decide, both}
 use Rattle.account.specs.Record.{costHeld}
 use Rattle.moves.specs.declared.Usage.{Usage}
 use Rattle.moves.specs.declared.Payment.{Payment}
+use Rattle.moves.specs.Moves.{isAccount, earlyCode}
+use Rattle.account.specs.Head.{stepOf}
 use Rattle.account.specs.declared.Account.{Account}
 use Rattle.refinement.specs.Lists.{Made}
 use Rattle.refinement.specs.Agree.{Agree, usageOf, paymentOf}
 use Rattle.refinement.proofs.Agreed.{is-account}
 use Rattle.refinement.proofs.Lists.{made-stands}
-use Rattle.months.specs.Summary.{inMonthOf, paymentsBy, one, amountOf, whMetered, costMetered, whEstimated, usageBy, summaryBy, summaryOf}
+use Rattle.months.specs.Summary.{inMonthOf, paymentsBy, one, amountOf, whMetered, costMetered, whEstimated, usageBy, summaryBy, summaryOf, IsSummary}
 use Rattle.months.proofs.Sums.{total-same, any-same, any-none}
 use Rattle.months.proofs.Numbers.{by-number, Dated, dated-after}
 
@@ -110,3 +113,19 @@ module _ (t : Terms) (m : ℕ) (o : opens (t .opened) ≡ true) where
 -- The summary of an account that this software made is the ledger's of the same events.
 pub summary-made : (a : Account) (m : ℕ) (t : Terms) (es : List Event) → Made t es a → summaryOf a m ≡ ledgerSummary t (ledgerOf t es .list) m
 summary-made a m t es h = summary-is t m (valid-opens t (h .valid)) a (ledgerOf t es) (made-stands t es a h .agree) (dated-after t es)
+
+-- An account answers 2 to an event of day 400, so where every event gets 1 there is none.
+past : Event
+past = record { sort = 0; day = 400; amount = 0; number = 0; kind = 0; usage = 0; wh = 0; from = 0; to = 0 }
+
+past-refused : (a : Account) → isAccount (a .terms) (a .totals) ≡ true → stepOf a past .code ≡ 2
+unfolding stepOf earlyCode past
+past-refused a y = simp (y, or-true (ltb 400 (a .totals .last)))
+
+no-account : (a : Account) (m : ℕ) → ((e : Event) → stepOf a e .code ≡ 1) → summaryOf a m ≡ noSummary 1
+no-account a m h = decide (isAccount (a .terms) (a .totals))
+    (λ y. absurd (omega (arith, past-refused a y, h past)))
+    (λ f. simp f)
+
+pub promised : (a : Account) (m : ℕ) (r : Summary) → r ≡ summaryOf a m → IsSummary a m r
+promised a m r e = record { account = e; ledgers = λ t es h. e ∙ summary-made a m t es h; none = λ h. e ∙ no-account a m h }

@@ -1,5 +1,6 @@
 -- The month summary off the account record.
 use Prim.Native.Nat.{ℕ, _+_, _*_}
+use mathlib.Core.Path.{_≡_}
 use mathlib.Core.Bool.{Bool, cond, not, _&&_}
 use mathlib.Core.List.{List, [], _∷_}
 use lib.ListN.{getD}
@@ -7,17 +8,22 @@ use lib.Dec.{leb, eqb}
 use Rattle.calendar.specs.declared.Date.{Date}
 use Rattle.calendar.specs.Calendar.{dateOn, monthFrom, isDay, total}
 use Rattle.calendar.specs.Days.{anyDay}
+use Rattle.terms.specs.declared.Terms.{Terms}
+use Rattle.ledger.specs.declared.Event.{Event}
 use Rattle.ledger.specs.declared.Counted.{Counted}
 use Rattle.ledger.specs.declared.Used.{Used}
 use Rattle.ledger.specs.declared.Summary.{Summary}
-use Rattle.ledger.specs.Months.{isReversed, averageOf, noSummary}
+use Rattle.ledger.specs.Months.{isReversed, averageOf, noSummary, ledgerSummary}
+use Rattle.ledger.specs.Rules.{Ledger}
 use Rattle.account.specs.Record.{blankDay, noPayment, costHeld}
 use Rattle.moves.specs.Moves.{isAccount}
 use Rattle.moves.specs.declared.Usage.{Usage}
 use Rattle.moves.specs.declared.Usage.the-variants.{Blank, Estimated, Metered}
 use Rattle.moves.specs.declared.Day.{Day}
 use Rattle.moves.specs.declared.Payment.{Payment}
+use Rattle.account.specs.Head.{stepOf}
 use Rattle.account.specs.declared.Account.{Account}
+use Rattle.refinement.specs.Lists.{IsLedgers}
 
 -- day d is one of the account's days and lies in month m
 unfoldable pub inMonthOf : Date → ℕ → ℕ → Bool
@@ -107,6 +113,12 @@ summaryBy q a m =
     (chargesOf (a .charges) m))
     (noSummary 3)
 
--- A record that is no account, of which every event gets 1, gets 1 for every month.
+-- a record that is no account gets 1 for every month, before 3
 abbrev pub summaryOf : Account → ℕ → Summary
 summaryOf a m = cond (isAccount (a .terms) (a .totals)) (summaryBy (inMonthOf (a .terms .opened) m) a m) (noSummary 1)
+
+-- What `summary` promises: off the record, and in the ledger's terms. The record of which every event gets 1 gets 1 for the month too.
+pub record IsSummary (a : Account) (m : ℕ) (r : Summary) : Type 0 where
+  pub account : r ≡ summaryOf a m
+  pub ledgers : IsLedgers a (λ (t : Terms) (l : Ledger). ledgerSummary t (l .list) m) r
+  pub none : ((e : Event) → stepOf a e .code ≡ 1) → r ≡ noSummary 1

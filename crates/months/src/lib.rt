@@ -9,11 +9,8 @@ use moves::Payment;
 use moves::Usage;
 ghost use mathlib.Core.Path.{_≡_};
 ghost use Prim.Native.Nat.{ℕ, _+_, _≤_};
-ghost use Rattle.terms.specs.declared.Terms.{Terms};
-ghost use Rattle.ledger.specs.Rules.{Ledger};
-ghost use Rattle.ledger.specs.Months.{noSummary, averageOf, ledgerSummary};
-ghost use Rattle.refinement.specs.Lists.{IsLedgers};
-ghost use Rattle.months.specs.Summary.{chargesOf, summaryOf};
+ghost use Rattle.ledger.specs.Months.{noSummary, averageOf};
+ghost use Rattle.months.specs.Summary.{chargesOf, IsSummary};
 ghost use Rattle.months.specs.Work.{span, PaidTo, UsedTo, withAmount, withPayment, paidBy, withUsage, withDay, usedBy, figuresOf};
 
 // The payments kept and those reversed.
@@ -218,8 +215,7 @@ fn figures(p: Paid, u: Usages, charges: [u64; 5]) -> Summary
 // Month m's figures, counted from the opening month. The code is 1 where the record is no account, then 3 where none of the account's
 // days lies in the month, then 1 where a sum of charges in the average is past any account's.
 pub fn summary(a: Account, m: u32) -> Summary
-    ensures { λ r. ⌜ r ≡ summaryOf a m ⌝ }
-    ensures { λ r. ⌜ IsLedgers a (λ (t : Terms) (l : Ledger). ledgerSummary t (l .list) m) r ⌝ }
+    ensures { λ r. ⌜ IsSummary a m r ⌝ }
 {
     let t = a.terms;
     let s = a.totals;

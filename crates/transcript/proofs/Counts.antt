@@ -118,6 +118,7 @@ piece-local f g room s a at count n h = decide (leb (length s) at)
 pub counts-suffice : CountsSuffice
 unfolding eventLines headLines eventsPiece
 counts-suffice = record {
+  progress = λ s r e g. omega (arith, event-progress s e r g);
   lines = λ t l n s.
       uncounted {X = Ledger × ℕ × List ℕ} {Y = List ℕ} (λ x. length (x .2))
       (λ f x. linesBy (λ (m : Ledger) (i : ℕ) (r : List ℕ). f (m, i, r)) t (x .0) (x .1) (x .2))

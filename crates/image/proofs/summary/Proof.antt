@@ -14,7 +14,7 @@ summary-requires c κs = search needs
 
 returns : tie.Need-returns
 unfolding summaryIn
-returns c = c .summary .ensures .0 ∙ ap (λ (x : Account). summaryOf x (c .before .before .args .m)) (c .before .account-of .ensures)
+returns c = c .summary .ensures .account ∙ ap (λ (x : Account). summaryOf x (c .before .before .args .m)) (c .before .account-of .ensures)
 
 pub summary-spec : {M : Type 1} → statement M
 summary-spec = tie.close (tie.spec account-of-requires summary-requires returns)

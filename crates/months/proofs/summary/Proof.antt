@@ -7,7 +7,7 @@ use borrow.Author.Tests.{not-true, not-false}
 use Rattle.moves.specs.Moves.{isAccount}
 use Rattle.moves.proofs.Early.{in-reach}
 use Rattle.months.proofs.Span.{month-small, summary-other, summary-none, summary-some}
-use Rattle.months.proofs.Agrees.{summary-made}
+use Rattle.months.proofs.Agrees.{promised}
 use Rattle.months.proofs.summary.Statement.{statement}
 use Rattle.months.proofs.summary.Tie as tie
 
@@ -25,7 +25,7 @@ returns c =
     let d = c .before .before in
     let a = d .before .before .before .args in
     let e = c .nothing .ensures ∙ summary-other (a .a) (a .m) (sym (d .is-account .ensures) ∙ not-true _ (c .before .if1 .taken)) in
-    (e, λ t es h. e ∙ summary-made (a .a) (a .m) t es h)
+    promised (a .a) (a .m) _ e
 
 days-of-requires : tie.Need-days-of-requires
 days-of-requires c κs = search needs
@@ -39,7 +39,7 @@ returns-2 c =
     let i = d .before .before in
     let a = i .before .before .before .before .args in
     let e = c .nothing2 .ensures ∙ summary-none (a .a) (a .m) _ (d .days-of .ensures) (account-is i) (c .before .if2 .taken) in
-    (e, λ t es h. e ∙ summary-made (a .a) (a .m) t es h)
+    promised (a .a) (a .m) _ e
 
 paid-in-requires : tie.Need-paid-in-requires
 paid-in-requires c κs = in-reach _ _ (account-is (c .before .before .before .before .before)) .count
@@ -64,7 +64,7 @@ returns-3 c =
     let i = d .before .before in
     let a = i .before .before .before .before .args in
     let e = (rw (c .before .charges-in .ensures, u .used-in .ensures .0, p .paid-in .ensures) at (c .figures .ensures)) ∙ summary-some (a .a) (a .m) _ (d .days-of .ensures) (account-is i) (f .if2 .left) in
-    (e, λ t es h. e ∙ summary-made (a .a) (a .m) t es h)
+    promised (a .a) (a .m) _ e
 
 pub summary-spec : {M : Type 1} → statement M
 summary-spec =

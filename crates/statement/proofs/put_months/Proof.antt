@@ -37,7 +37,7 @@ loop-again : tie.Need-loop-again Inv-loop μ-loop
 loop-again c =
     let l = c .before .before .before .before .before .before .loop in
     let line = c .before .before .put-line .ensures in
-    (search needs, omega (arith, l .inv .1, line .1), one-more _ (l .m) _ (l .inv .2) (c .before .before .before .before .summary .ensures .0) (line .0))
+    (search needs, omega (arith, l .inv .1, line .1), one-more _ (l .m) _ (l .inv .2) (c .before .before .before .before .summary .ensures .account) (line .0))
 
 same-length : tie.Need-same-length Inv-loop μ-loop
 same-length c = kept (c .before .loop .inv .2)
