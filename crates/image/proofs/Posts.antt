@@ -5,12 +5,12 @@ use mathlib.Core.Bool.{false}
 use Rattle.ledger.specs.declared.Event.{Event}
 use Rattle.ledger.specs.Months.{noSummary}
 use Rattle.ledger.proofs.Cases.{decide}
+use Rattle.account.specs.Record.{fresh}
 use Rattle.account.specs.Head.{stepOf}
 use Rattle.account.specs.declared.Account.{Account}
-use Rattle.months.specs.Summary.{summaryOf}
 use Rattle.moves.proofs.Ways.{yes, no}
 use Rattle.image.specs.declared.Image.{Image}
-use Rattle.image.specs.Image.{isImage, accountOf, imageOf, imageAfter, postedOf, summaryIn, Carried}
+use Rattle.image.specs.Image.{isImage, noTerms, accountOf, imageOf, imageAfter, postedOf, summaryIn, Carried}
 use Rattle.image.proofs.Conversions.{inverse-holds}
 use Rattle.image.proofs.Refused.{leaves, no-account, no-summary}
 
@@ -35,7 +35,9 @@ module _ (e : Event) where
 
 summary-is : (m : ℕ) (i : Image) → isImage i ≡ false → summaryIn i m ≡ noSummary 1
 unfolding summaryIn accountOf
-summary-is m i f = ap (λ (x : Account). summaryOf x m) (no (isImage i) _ _ f) ∙ no-summary m
+summary-is m i f =
+    let e : accountOf i ≡ fresh noTerms = simp f in
+    cc (no-summary m)
 
 pub carried-holds : Carried
 carried-holds = record { post = λ a e. post-is e a; refusal = λ i e. refusal-is e i; other = λ i e. other-is e i; summary = λ i m. summary-is m i }
