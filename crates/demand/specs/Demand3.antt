@@ -53,7 +53,7 @@ pub record CallHolds (t : Terms) (l : Ledger) (c : Call) (v : Seen) : Type 0 whe
   -- "equals it exactly when no usage day stands on an estimate costing more than zero"
   pub exactly : (v .after .balance -ℤ pos (v .after .plan) ≡ v .after .settled) ↔ ((u : ℕ) → estimateCost (usageDay t (ledgerCalled t l c .list) u) ≡ 0)
   -- "A disconnect request in the list that passes the day and fullness checks is granted exactly when, just before it, .."; es are the events
-  -- of the same call before it, so that its code is at their number.
+  -- of the same call before it, and its code is at place `length es`.
   pub disconnects : (es : List Event) (e : Event) (rest : List Event)
       → fed c ≡ es ++ (e ∷ rest)
       → isDisconnect e ≡ true
