@@ -1,6 +1,6 @@
 -- Demand 3 on the functions that run: the contracts of `account::open`, `post`, `post_row` and the reading calls, as the toolchain compiled
 -- them, are the steps of demand 3's relation; so whatever they leave of a list of calls is what demand 3 claims. A weaker `ensures` of one of
--- them is refused here.
+-- them is refused here, and so is a `requires`.
 -- Assumes nothing.
 use Prim.Native.Nat.{ℕ}
 use mathlib.Core.Path.{_≡_, sym, subst}
@@ -70,6 +70,33 @@ module _ {M : Type 1} (𝓤 : URA M) (H : Heap 𝓤) (A : Atoms 𝓤) (at-mem : 
 
     abbrev EstimatesSays : ℕ → SProp 𝓤
     EstimatesSays r = estimates.clauses 𝓤 H A at-mem run tt (s, tt) .ensures tt r (atExit estimates.ended tt (s, tt) (tt, tt))
+
+  -- ---- they ask nothing of a call: each `requires` is had for nothing
+
+  post-asks : (κs : Lfts 1) (a : RefT Account) (e : Event) → ent 𝓤 (emp 𝓤) (post.clauses 𝓤 H A at-mem run κs (a, (e, tt)) .requires tt)
+  post-asks κs a e = id⊢ 𝓤 _
+
+  row-asks : (κs : Lfts 3) (a : RefT Account) (es : RefT (List Event)) (buffer : RefT (List ℕ)) → ent 𝓤 (emp 𝓤) (row-call.clauses 𝓤 H A at-mem run κs (a, (es, (buffer, tt))) .requires tt)
+  row-asks κs a es buffer = id⊢ 𝓤 _
+
+  open-asks : (t : Terms) → ent 𝓤 (emp 𝓤) (open-call.clauses 𝓤 H A at-mem run tt (t, tt) .requires tt)
+  open-asks t = id⊢ 𝓤 _
+
+  module _ (s : Totals) where
+    balance-asks : ent 𝓤 (emp 𝓤) (balance.clauses 𝓤 H A at-mem run tt (s, tt) .requires tt)
+    balance-asks = id⊢ 𝓤 _
+
+    plan-asks : ent 𝓤 (emp 𝓤) (plan.clauses 𝓤 H A at-mem run tt (s, tt) .requires tt)
+    plan-asks = id⊢ 𝓤 _
+
+    service-asks : ent 𝓤 (emp 𝓤) (service.clauses 𝓤 H A at-mem run tt (s, tt) .requires tt)
+    service-asks = id⊢ 𝓤 _
+
+    settled-asks : ent 𝓤 (emp 𝓤) (settled.clauses 𝓤 H A at-mem run tt (s, tt) .requires tt)
+    settled-asks = id⊢ 𝓤 _
+
+    estimates-asks : ent 𝓤 (emp 𝓤) (estimates.clauses 𝓤 H A at-mem run tt (s, tt) .requires tt)
+    estimates-asks = id⊢ 𝓤 _
 
   -- ---- each is the step that the relation takes
 

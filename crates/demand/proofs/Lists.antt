@@ -1,7 +1,6 @@
 -- Demand 3: by induction over the calls, from any account that stands for a ledger.
 -- Assumes nothing.
 use Prim.Native.Nat.{ℕ}
-use native.Mathlib.Omega.{arith}
 use mathlib.Core.Path.{_≡_, refl, sym, ap, _∙_}
 use mathlib.Core.Bool.{true, false, cond}
 use mathlib.Core.List.{List, [], _∷_, _++_}
@@ -25,12 +24,11 @@ use Rattle.ledger.proofs.Rows.{code-at}
 use Rattle.ledger.proofs.Identity.{settled-is}
 use Rattle.ledger.proofs.Disconnect.{disconnect-granted}
 use Rattle.ledger.proofs.Standing.{standing-none}
-use Rattle.account.specs.Head.{stepOf, openOf, IsOpened}
+use Rattle.account.specs.Head.{stepOf, openOf}
 use Rattle.account.specs.declared.Account.{Account}
-use Rattle.account.specs.declared.Opened.{Opened}
 use Rattle.refinement.specs.Lists.{accountAfter}
 use Rattle.refinement.specs.Agree.{Stands}
-use Rattle.refinement.proofs.Lists.{stands-fresh, stands-after}
+use Rattle.refinement.proofs.Lists.{stands-fresh, stands-after, opened-valid}
 use Rattle.posting.specs.Posting.{answerOf, rowOf}
 use Rattle.posting.proofs.Ledgers.{answer-back, row-back, row-account, posts, posts-row}
 use Rattle.readings.specs.Readings.{balanceOf, settledOf}
@@ -153,15 +151,11 @@ runs-of (row es buffer ∷ cs) a =
 
 -- ---- from what `account::open` promises
 
-made-valid : (t : Terms) (o : Opened) → IsOpened t o → o .code ≡ 0 → validTerms t ≡ true
-unfolding termsCode
-made-valid t o is z = decide (validTerms t) (λ y. y) (λ f. absurd (let one : _≡_ {A = ℕ} 1 0 = simp f at (sym (ap (λ (x : Opened). x .code) is) ∙ z) in omega arith))
-
 pub demand-3 : (t : Terms) → Demand3 t
 unfolding termsCode
 demand-3 t = record {
   every = λ first cs vs q.
-      let s : Stands t (q .0 .account) opening = rw (q .1) (stands-fresh t (made-valid t (q .0) (q .1) (q .2))) in
+      let s : Stands t (q .0 .account) opening = rw (q .1) (stands-fresh t (opened-valid t (q .0) (q .1) (q .2))) in
       (shows-is t (q .0 .account) opening s first (q .3), calls-hold t cs vs (q .0 .account) opening s (q .4));
   some = λ v cs. let r = runs-of cs (openOf t .account) in (read (openOf t .account), r .0, (openOf t, refl, simp v, reads (openOf t .account), r .1));
 }

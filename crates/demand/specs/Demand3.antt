@@ -6,14 +6,13 @@ use mathlib.Core.List.{List, [], _∷_, _++_}
 use mathlib.Core.Logic.{_↔_}
 use lib.IntN.{pos, _+ℤ_, _-ℤ_}
 use lib.ListN.{length, getD}
-use lib.Signed.{ltZ}
 use Rattle.terms.specs.Terms.{validTerms}
 use Rattle.terms.specs.declared.Terms.{Terms}
 use Rattle.ledger.specs.declared.Event.{Event}
 use Rattle.ledger.specs.declared.Answer.{Answer}
 use Rattle.ledger.specs.Event.{isDisconnect}
-use Rattle.ledger.specs.Entries.{warned, barred, usageDay, estimateCost}
-use Rattle.ledger.specs.Rules.{Ledger, dayRefused, isFull}
+use Rattle.ledger.specs.Entries.{usageDay, estimateCost}
+use Rattle.ledger.specs.Rules.{Ledger, dayRefused, isFull, MayCut}
 use Rattle.ledger.specs.Sums as sums
 use Rattle.ledger.specs.Ledger.{opening, ledgerAfter}
 use Rattle.ledger.specs.Calls.{Call, Back, answered, written, fed, ledgerCalled, ledgerBack}
@@ -33,14 +32,6 @@ shows t l = record {
 abbrev pub codesIn : Back → List ℕ
 codesIn (answered r) = r .code ∷ []
 codesIn (written r bytes) = bytes
-
--- "service is on, the balance is below the cutoff, an accepted warning is one to seven days old, and the day is not barred"
-abbrev pub MayCut : Terms → Ledger → Event → Type 0
-MayCut t l e =
-    (l .on ≡ true)
-    × (ltZ (l .balance) (pos (t .cutoff)) ≡ true)
-    × (warned (e .day) (l .list) ≡ true)
-    × (barred t (e .day) (l .list) ≡ false)
 
 -- Of one call c, of which v is seen: l is the ledger just before it.
 pub record CallHolds (t : Terms) (l : Ledger) (c : Call) (v : Seen) : Type 0 where

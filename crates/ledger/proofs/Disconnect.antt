@@ -1,10 +1,9 @@
 -- When a disconnect is granted.
 -- Assumes nothing.
 use mathlib.Core.Path.{_≡_, refl, sym, _∙_}
-use mathlib.Core.Bool.{true, false, not, _&&_, _||_}
+use mathlib.Core.Bool.{true, false, not, _&&_}
 use mathlib.Core.Logic.{_↔_}
 use Prim.Native.Nat.{ℕ}
-use lib.ListN.{length}
 use lib.Dec.{ltb, leb}
 use lib.IntN.{ℤ, pos, negsuc}
 use lib.Signed.{ltZ, leZ}
@@ -12,8 +11,8 @@ use borrow.Author.Tests.{ltb-true, ltb-false, lt-leb, le-leb, eqb-true, eq-eqb, 
 use Rattle.terms.specs.declared.Terms.{Terms}
 use Rattle.ledger.specs.declared.Event.{Event}
 use Rattle.ledger.specs.Event.{isDisconnect, isConnect, inLimits}
-use Rattle.ledger.specs.Entries.{lastDay, warned, barred}
-use Rattle.ledger.specs.Rules.{Ledger, refusals, firstOf}
+use Rattle.ledger.specs.Entries.{warned}
+use Rattle.ledger.specs.Rules.{Ledger, dayRefused, isFull, MayCut, refusals, firstOf}
 use Rattle.ledger.specs.Ledger.{accepts, refusal, ledgerStep}
 use Rattle.ledger.proofs.Cases.{decide, neither}
 use Rattle.ledger.proofs.Accepted.{Accepted, accepted-by}
@@ -33,10 +32,7 @@ ltZ-not (pos a) (negsuc b) = refl
 ltZ-not (negsuc a) (pos b) = refl
 ltZ-not (negsuc a) (negsuc b) = below-not b a
 
-abbrev Grounds : Terms → Ledger → Event → Type 0
-Grounds t l e = (l .on ≡ true) × (ltZ (l .balance) (pos (t .cutoff)) ≡ true) × (warned (e .day) (l .list) ≡ true) × (barred t (e .day) (l .list) ≡ false)
-
-grounds-of : (t : Terms) (l : Ledger) (e : Event) → e .sort ≡ 10 → Accepted t l e → Grounds t l e
+grounds-of : (t : Terms) (l : Ledger) (e : Event) → e .sort ≡ 10 → Accepted t l e → MayCut t l e
 grounds-of t l e k a =
     let y : isDisconnect e ≡ true = eq-eqb (e .sort) 10 k in
     let b : leZ (pos (t .cutoff)) (l .balance) ≡ false = simp y at (neither (isDisconnect e && leZ (pos (t .cutoff)) (l .balance)) (isConnect e && ltZ (l .balance) (pos (t .connect))) (a .code12) .0) in (
@@ -47,9 +43,7 @@ grounds-of t l e k a =
     )
 
 pub disconnect-granted : (t : Terms) (l : Ledger) (e : Event) → e .sort ≡ 10
-    → (ltb (e .day) (lastDay (l .list)) || ltb 399 (e .day)) ≡ false → leb 4096 (length (l .list)) ≡ false
-    → (ledgerStep t l e .answer .code ≡ 0)
-    ↔ ((l .on ≡ true) × (ltZ (l .balance) (pos (t .cutoff)) ≡ true) × (warned (e .day) (l .list) ≡ true) × (barred t (e .day) (l .list) ≡ false))
+    → dayRefused l e ≡ false → isFull l ≡ false → (ledgerStep t l e .answer .code ≡ 0) ↔ MayCut t l e
 unfolding refusal refusals firstOf inLimits
 disconnect-granted t l e k day room = (
   (λ c. grounds-of t l e k (accepted-by t l e (eq-eqb (refusal t l e) 0 (sym (code-is t l e) ∙ c)))),

@@ -1,5 +1,6 @@
 -- The refusals (document 01, "What comes back on a refusal").
 use Prim.Native.Nat.{ℕ, _+_}
+use mathlib.Core.Path.{_≡_}
 use mathlib.Core.Bool.{Bool, true, false, cond, not, _&&_, _||_}
 use mathlib.Core.List.{List, [], _∷_}
 use lib.ListN.{length}
@@ -36,6 +37,14 @@ dayRefused l e = ltb (e .day) (lastDay (l .list)) || ltb 399 (e .day)
 -- The fullness check, code 4: "4,096 events accepted already".
 abbrev pub isFull : Ledger → Bool
 isFull l = leb 4096 (length (l .list))
+
+-- "service is on, the balance is below the cutoff, an accepted warning is one to seven days old, and the day is not barred"
+abbrev pub MayCut : Terms → Ledger → Event → Type 0
+MayCut t l e =
+    (l .on ≡ true)
+    × (ltZ (l .balance) (pos (t .cutoff)) ≡ true)
+    × (warned (e .day) (l .list) ≡ true)
+    × (barred t (e .day) (l .list) ≡ false)
 
 -- The table, each number with when it applies, in the order in which they are looked at.
 unfoldable pub refusals : Terms → Ledger → Event → List Rule

@@ -39,7 +39,7 @@ pub struct Used {
     pub cost: u64,
 }
 
-// A month's figures (specs/Months.antt). The code is 3 for a month that holds none of the account's days; every figure is 0 then.
+// A month's figures (specs/Months.antt). The code is 3 for a month that holds none of the account's days, and 1 where there is no account; every figure is 0 then.
 #[repr(C)]
 pub struct Summary {
     pub code: u8,

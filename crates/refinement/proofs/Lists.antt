@@ -1,19 +1,22 @@
 -- The refinement, one event and lists of events, from any account that stands for a ledger; so for every account that this software made.
 -- Assumes nothing.
 use Prim.Native.Nat.{ℕ}
+use native.Mathlib.Omega.{arith}
 use mathlib.Core.Path.{_≡_, refl, sym, ap, ap₂, _∙_}
 use mathlib.Core.Bool.{true}
 use mathlib.Core.List.{List, [], _∷_, _++_}
-use Rattle.terms.specs.Terms.{validTerms}
+use Rattle.terms.specs.Terms.{validTerms, termsCode}
 use Rattle.terms.specs.declared.Terms.{Terms}
 use Rattle.ledger.specs.declared.Event.{Event}
 use Rattle.ledger.specs.Rules.{Ledger}
 use Rattle.ledger.specs.Ledger.{opening, ledgerStep, ledgerAfter, ledgerOf}
 use Rattle.ledger.specs.Calls.{ledgerCodes}
+use Rattle.ledger.proofs.Cases.{decide}
 use Rattle.ledger.proofs.Identity.{invariant-valid, invariant-step}
 use Rattle.account.specs.Record.{fresh}
-use Rattle.account.specs.Head.{stepOf}
+use Rattle.account.specs.Head.{stepOf, IsOpened}
 use Rattle.account.specs.declared.Account.{Account}
+use Rattle.account.specs.declared.Opened.{Opened}
 use Rattle.refinement.specs.Lists.{accountAfter, codesOf, Made}
 use Rattle.refinement.specs.Agree.{Stands, Refinement}
 use Rattle.refinement.proofs.Refines.{refines, agree-fresh}
@@ -49,6 +52,11 @@ refinement-holds t v = record {
 }
 
 -- ---- accounts that this software made
+
+-- an opening that is answered 0 had terms within their limits
+pub opened-valid : (t : Terms) (o : Opened) → IsOpened t o → o .code ≡ 0 → validTerms t ≡ true
+unfolding termsCode
+opened-valid t o is z = decide (validTerms t) (λ y. y) (λ f. absurd (let one : _≡_ {A = ℕ} 1 0 = simp f at (sym (ap (λ (x : Opened). x .code) is) ∙ z) in omega arith))
 
 pub made-stands : (t : Terms) (es : List Event) (a : Account) → Made t es a → Stands t a (ledgerOf t es)
 made-stands t es a m = rw (m .account) (stands-after t es (fresh t) opening (stands-fresh t (m .valid)))

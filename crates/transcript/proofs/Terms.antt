@@ -3,7 +3,6 @@ use Prim.Native.Nat.{ℕ, _≤_, _<_}
 use mathlib.Core.Path.{_≡_, sym, ap, _∙_}
 use mathlib.Core.Bool.{true, false}
 use mathlib.Core.List.{List}
-use native.Mathlib.Omega.{arith}
 use lib.ListN.{length}
 use borrow.Author.Tests.{lt-ltb, le-ltb}
 use Rattle.terms.specs.Terms.{validTerms, termsCode}
@@ -11,6 +10,7 @@ use Rattle.terms.specs.declared.Terms.{Terms}
 use Rattle.ledger.proofs.Cases.{decide}
 use Rattle.account.specs.Head.{openOf}
 use Rattle.account.specs.declared.Opened.{Opened}
+use Rattle.refinement.proofs.Lists.{opened-valid}
 use Rattle.scanner.specs.Scanner.{Read, got}
 use Rattle.text.specs.Text.{readTerms}
 use Rattle.transcript.specs.Transcript.{termsLine, byTerms, byText}
@@ -18,10 +18,6 @@ use Rattle.transcript.specs.Transcript.{termsLine, byTerms, byText}
 wrong : (t : Terms) → (termsCode t ≡ 0 → ⊥) → (validTerms t ≡ false) × (termsCode t ≡ 1)
 unfolding termsCode
 wrong t ne = decide (validTerms t) (λ y. absurd (ne (simp y))) (λ f. (f, simp f))
-
-right : (t : Terms) → termsCode t ≡ 0 → validTerms t ≡ true
-unfolding termsCode
-right t e = decide (validTerms t) (λ y. y) (λ f. absurd (let one : _≡_ {A = ℕ} 1 0 = simp f at e in omega arith))
 
 module _ (lines : Terms → List ℕ → List ℕ) (s : List ℕ) where
   pub too-long : 65536 < length s → byText lines s ≡ termsLine 15
@@ -35,7 +31,7 @@ module _ (t : Terms) (o : Opened) (is : o ≡ openOf t) where
   code-is = ap (λ (p : Opened). p .code) is
 
   pub valid : o .code ≡ 0 → validTerms t ≡ true
-  valid e = right t (sym code-is ∙ e)
+  valid = opened-valid t o is
 
   pub refused : (lines : Terms → List ℕ → List ℕ) (s : List ℕ) → (o .code ≡ 0 → ⊥) → termsLine (o .code) ≡ byTerms lines (got t s)
   refused lines s ne = let f = wrong t (λ e. ne (code-is ∙ e)) in simp (f .0) (ap termsLine (code-is ∙ f .1))
