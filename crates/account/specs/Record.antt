@@ -1,4 +1,4 @@
--- The account record: a fresh one, and one that a refusal leaves.
+-- The account record: its blank cells, and a fresh one.
 use Prim.Native.Nat.{ℕ}
 use mathlib.Core.Bool.{false}
 use lib.ListN.{replicate}
@@ -8,7 +8,6 @@ use Rattle.moves.specs.declared.Usage.the-variants.{Blank, Estimated, Metered}
 use Rattle.moves.specs.declared.Day.{Day}
 use Rattle.moves.specs.declared.Payment.{Payment}
 use Rattle.account.specs.declared.Account.{Account}
-use Rattle.account.specs.declared.Posted.{Posted}
 
 abbrev pub blankDay : Day
 blankDay = record { usage = Blank }
@@ -27,10 +26,6 @@ fresh t = record {
   payments = replicate 128 noPayment;
   charges = replicate 75 0;
 }
-
--- a refusal leaves the account as it came in
-abbrev pub refused : Account → ℕ → Posted
-refused a k = record { account = a; code = k; value = 0 }
 
 -- the cost of the estimate that stands on a day
 abbrev pub costHeld : Usage → ℕ

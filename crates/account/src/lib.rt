@@ -1,5 +1,5 @@
 // The account record and its step by value.
-// It uses the terms, the marks, the moves and the ledger's event; its promises cite specs/Head.antt.
+// It uses the terms, the marks, the moves and the ledger's event; its promises cite specs/Step.antt.
 use ledger::Event;
 use moves::Day;
 use moves::Payment;
@@ -7,7 +7,7 @@ use moves::Totals;
 use moves::Usage;
 use terms::Terms;
 ghost use mathlib.Core.Path.{_≡_};
-ghost use Rattle.account.specs.Head.{stepOf, IsOpened};
+ghost use Rattle.account.specs.Step.{stepOf, IsOpened};
 ghost use Rattle.account.specs.Record.{fresh};
 
 // One account: its terms, its totals, and what is kept by usage day, day, payment, and month with charge kind.
@@ -77,8 +77,8 @@ pub fn open(t: Terms) -> Opened
     }
 }
 
-// One event: the account after it and the answer. A refusal hands the account back as it came in.
-// The record is copied once; the cells that the event may change are read, moved, and written back.
+// One event: the account after it and the answer. A refusal hands the account back as it came in, at once.
+// The cells that the event may change are read, moved, and written back.
 pub fn step(a: Account, e: Event) -> Posted
     ensures { λ r. ⌜ r ≡ stepOf a e ⌝ }
 {
@@ -90,6 +90,13 @@ pub fn step(a: Account, e: Event) -> Posted
     let usage = (e.usage % 400) as usize;
     let day = b.days[usage];
     let m = moves::move_of(t, s, payment, day, &b.charges, &b.marks, &b.warned, e);
+    if m.code != 0 {
+        return Posted {
+            account: b,
+            code: m.code,
+            value: m.value,
+        };
+    }
     let totals = m.totals;
     b.totals = totals;
     let paid = m.payment;

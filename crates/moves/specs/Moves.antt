@@ -1,5 +1,6 @@
 -- What one event does to the totals and to the cells that it may change: the head's step, without the record around it.
-use Prim.Native.Nat.{ℕ, _+_, _*_, _-_, _/_, _%_, min}
+use Prim.Native.Nat.{ℕ, _+_, _*_, _-_, _/_, _%_, _<_, min}
+use mathlib.Core.Path.{_≡_}
 use mathlib.Core.Bool.{Bool, true, false, cond, not, _&&_, _||_}
 use mathlib.Core.List.{List}
 use lib.ListN.{getD}
@@ -20,13 +21,13 @@ use Rattle.moves.specs.declared.Move.{Move}
 
 -- No list of events takes a total past 2 ^ 60, or the payments past 128: a record that has is no account of this software's, nor is one whose
 -- terms are outside their limits.
-abbrev pub most : ℕ
-most = 1152921504606846976
+abbrev pub maxTotal : ℕ
+maxTotal = 1152921504606846976
 
 unfoldable pub isAccount : Terms → Totals → Bool
 isAccount t s =
     eqb (termsCode t) 0
-    && (leb (s .credit) most && (leb (s .debit) most && (leb (s .plan) most && (leb (s .standing) most && leb (s .count) 128))))
+    && (leb (s .credit) maxTotal && (leb (s .debit) maxTotal && (leb (s .plan) maxTotal && (leb (s .standing) maxTotal && leb (s .count) 128))))
 
 -- 1 for no account; 2; 3; 4; else 0
 unfoldable pub earlyCode : Terms → Totals → Event → ℕ
@@ -37,213 +38,84 @@ earlyCode t s e =
 
 -- ---- the totals after an event: what changes, and what stays
 
+abbrev pub totals : ℕ → ℕ → ℕ → ℕ → ℕ → ℕ → ℕ → Bool → Totals
+totals credit debit plan standing count events last on = record {
+  credit = credit;
+  debit = debit;
+  plan = plan;
+  standing = standing;
+  count = count;
+  events = events;
+  last = last;
+  on = on;
+}
+
 -- the totals with one more event, of day x
 abbrev pub tallied : Totals → ℕ → Totals
-tallied s x = record {
-  credit = s .credit;
-  debit = s .debit;
-  plan = s .plan;
-  standing = s .standing;
-  count = s .count;
-  events = s .events + 1;
-  last = x;
-  on = s .on;
-}
+tallied s x = totals (s .credit) (s .debit) (s .plan) (s .standing) (s .count) (s .events + 1) x (s .on)
 
 abbrev pub credited : Totals → ℕ → Totals
-credited s n = record {
-  credit = s .credit + n;
-  debit = s .debit;
-  plan = s .plan;
-  standing = s .standing;
-  count = s .count;
-  events = s .events;
-  last = s .last;
-  on = s .on;
-}
+credited s n = totals (s .credit + n) (s .debit) (s .plan) (s .standing) (s .count) (s .events) (s .last) (s .on)
 
 abbrev pub debited : Totals → ℕ → Totals
-debited s n = record {
-  credit = s .credit;
-  debit = s .debit + n;
-  plan = s .plan;
-  standing = s .standing;
-  count = s .count;
-  events = s .events;
-  last = s .last;
-  on = s .on;
-}
+debited s n = totals (s .credit) (s .debit + n) (s .plan) (s .standing) (s .count) (s .events) (s .last) (s .on)
 
-abbrev pub planned : Totals → ℕ → Totals
-planned s r = record {
-  credit = s .credit;
-  debit = s .debit;
-  plan = r;
-  standing = s .standing;
-  count = s .count;
-  events = s .events;
-  last = s .last;
-  on = s .on;
-}
+abbrev pub withPlan : Totals → ℕ → Totals
+withPlan s r = totals (s .credit) (s .debit) r (s .standing) (s .count) (s .events) (s .last) (s .on)
 
-abbrev pub counted : Totals → ℕ → Totals
-counted s n = record {
-  credit = s .credit;
-  debit = s .debit;
-  plan = s .plan;
-  standing = s .standing;
-  count = n;
-  events = s .events;
-  last = s .last;
-  on = s .on;
-}
+abbrev pub withStanding : Totals → ℕ → Totals
+withStanding s n = totals (s .credit) (s .debit) (s .plan) n (s .count) (s .events) (s .last) (s .on)
 
-abbrev pub stands : Totals → ℕ → Totals
-stands s n = record {
-  credit = s .credit;
-  debit = s .debit;
-  plan = s .plan;
-  standing = n;
-  count = s .count;
-  events = s .events;
-  last = s .last;
-  on = s .on;
-}
+abbrev pub withCount : Totals → ℕ → Totals
+withCount s n = totals (s .credit) (s .debit) (s .plan) (s .standing) n (s .events) (s .last) (s .on)
 
-abbrev pub serves : Totals → Bool → Totals
-serves s b = record {
-  credit = s .credit;
-  debit = s .debit;
-  plan = s .plan;
-  standing = s .standing;
-  count = s .count;
-  events = s .events;
-  last = s .last;
-  on = b;
-}
+abbrev pub withService : Totals → Bool → Totals
+withService s b = totals (s .credit) (s .debit) (s .plan) (s .standing) (s .count) (s .events) (s .last) b
 
 -- ---- the cells after an event
 
--- the answer
-abbrev pub answering : Move → ℕ → ℕ → Move
-answering m code value = record {
+abbrev pub move : ℕ → ℕ → Totals → ℕ → Payment → Day → ℕ → ℕ → ℕ → ℕ → ℕ → ℕ → Move
+move code value totals number payment day place sum warned kind from to = record {
   code = code;
   value = value;
-  totals = m .totals;
-  number = m .number;
-  payment = m .payment;
-  day = m .day;
-  place = m .place;
-  sum = m .sum;
-  warned = m .warned;
-  kind = m .kind;
-  from = m .from;
-  to = m .to;
-}
-
-abbrev pub totalling : Move → Totals → Move
-totalling m s = record {
-  code = m .code;
-  value = m .value;
-  totals = s;
-  number = m .number;
-  payment = m .payment;
-  day = m .day;
-  place = m .place;
-  sum = m .sum;
-  warned = m .warned;
-  kind = m .kind;
-  from = m .from;
-  to = m .to;
-}
-
-abbrev pub paying : Move → ℕ → Payment → Move
-paying m number p = record {
-  code = m .code;
-  value = m .value;
-  totals = m .totals;
+  totals = totals;
   number = number;
-  payment = p;
-  day = m .day;
-  place = m .place;
-  sum = m .sum;
-  warned = m .warned;
-  kind = m .kind;
-  from = m .from;
-  to = m .to;
-}
-
-abbrev pub onDay : Move → Usage → Move
-onDay m u = record {
-  code = m .code;
-  value = m .value;
-  totals = m .totals;
-  number = m .number;
-  payment = m .payment;
-  day = record { usage = u };
-  place = m .place;
-  sum = m .sum;
-  warned = m .warned;
-  kind = m .kind;
-  from = m .from;
-  to = m .to;
-}
-
-abbrev pub charging : Move → ℕ → ℕ → Move
-charging m place sum = record {
-  code = m .code;
-  value = m .value;
-  totals = m .totals;
-  number = m .number;
-  payment = m .payment;
-  day = m .day;
+  payment = payment;
+  day = day;
   place = place;
   sum = sum;
-  warned = m .warned;
-  kind = m .kind;
-  from = m .from;
-  to = m .to;
-}
-
-abbrev pub warning : Move → Move
-warning m = record {
-  code = m .code;
-  value = m .value;
-  totals = m .totals;
-  number = m .number;
-  payment = m .payment;
-  day = m .day;
-  place = m .place;
-  sum = m .sum;
-  warned = 1;
-  kind = m .kind;
-  from = m .from;
-  to = m .to;
-}
-
-abbrev pub marking : Move → ℕ → ℕ → ℕ → Move
-marking m kind from to = record {
-  code = m .code;
-  value = m .value;
-  totals = m .totals;
-  number = m .number;
-  payment = m .payment;
-  day = m .day;
-  place = m .place;
-  sum = m .sum;
-  warned = m .warned;
+  warned = warned;
   kind = kind;
   from = from;
   to = to;
 }
 
+-- the answer and the totals
+abbrev pub answering : Move → ℕ → ℕ → Totals → Move
+answering m code value s = move code value s (m .number) (m .payment) (m .day) (m .place) (m .sum) (m .warned) (m .kind) (m .from) (m .to)
+
+abbrev pub paying : Move → ℕ → Payment → Move
+paying m number p = move (m .code) (m .value) (m .totals) number p (m .day) (m .place) (m .sum) (m .warned) (m .kind) (m .from) (m .to)
+
+abbrev pub onDay : Move → Usage → Move
+onDay m u = move (m .code) (m .value) (m .totals) (m .number) (m .payment) (record { usage = u }) (m .place) (m .sum) (m .warned) (m .kind) (m .from) (m .to)
+
+abbrev pub charging : Move → ℕ → ℕ → Move
+charging m place sum = move (m .code) (m .value) (m .totals) (m .number) (m .payment) (m .day) place sum (m .warned) (m .kind) (m .from) (m .to)
+
+abbrev pub warning : Move → Move
+warning m = move (m .code) (m .value) (m .totals) (m .number) (m .payment) (m .day) (m .place) (m .sum) 1 (m .kind) (m .from) (m .to)
+
+abbrev pub marking : Move → ℕ → ℕ → ℕ → Move
+marking m kind from to = move (m .code) (m .value) (m .totals) (m .number) (m .payment) (m .day) (m .place) (m .sum) (m .warned) kind from to
+
 -- a refusal moves nothing
 abbrev pub refusing : Move → ℕ → Move
-refusing m k = answering m k 0
+refusing m k = answering m k 0 (m .totals)
 
 -- accepted with the value: the cells of m, and these totals
-abbrev pub moved : Move → Totals → ℕ → Move
-moved m s v = totalling (answering m 0 v) s
+abbrev pub accepting : Move → Totals → ℕ → Move
+accepting m s v = answering m 0 v s
 
 -- ---- the sorts
 abbrev pub partIn : Terms → Totals → Event → ℕ
@@ -252,10 +124,10 @@ partIn t s e = min (s .plan) (e .amount * t .share / 100)
 unfoldable pub payOf : Terms → Move → Event → Move
 payOf t m e =
     cond (leb 128 (m .totals .count)) (refusing m 5)
-    (moved
+    (accepting
     (paying m (m .totals .count) (record { day = e .day; amount = e .amount; part = partIn t (m .totals) e; reversed = false }))
-    (counted
-    (planned (credited (tallied (m .totals) (e .day)) (e .amount - partIn t (m .totals) e)) (m .totals .plan - partIn t (m .totals) e))
+    (withCount
+    (withPlan (credited (tallied (m .totals) (e .day)) (e .amount - partIn t (m .totals) e)) (m .totals .plan - partIn t (m .totals) e))
     (m .totals .count + 1))
     (m .totals .count))
 
@@ -266,15 +138,15 @@ unfoldable pub reverseOf : Terms → Move → Event → Move
 reverseOf t m e =
     cond (leb (m .totals .count) (e .number)) (refusing m 6)
     (cond (m .payment .reversed) (refusing m 6)
-    (moved
+    (accepting
     (paying m (m .number) (reversing (m .payment)))
-    (planned
+    (withPlan
     (debited (tallied (m .totals) (e .day)) (m .payment .amount - m .payment .part))
     (m .totals .plan + m .payment .part))
     0))
 
 unfoldable pub creditOf : Terms → Move → Event → Move
-creditOf t m e = moved m (credited (tallied (m .totals) (e .day)) (e .amount)) 0
+creditOf t m e = accepting m (credited (tallied (m .totals) (e .day)) (e .amount)) 0
 
 -- where the charges of the event's month and kind are summed
 abbrev pub chargePlace : Terms → Event → ℕ
@@ -282,28 +154,28 @@ chargePlace t e = 5 * monthOn (t .opened) (e .day) + (e .kind - 1)
 
 unfoldable pub chargeOf : Terms → Move → List ℕ → Event → Move
 chargeOf t m charges e =
-    cond (ltb most (getD charges (chargePlace t e) 0)) (refusing m 1)
-    (moved
+    cond (ltb maxTotal (getD charges (chargePlace t e) 0)) (refusing m 1)
+    (accepting
     (charging m (chargePlace t e) (getD charges (chargePlace t e) 0 + e .amount))
     (debited (tallied (m .totals) (e .day)) (e .amount))
     0)
 
-abbrev pub costIn : Terms → Event → ℕ
-costIn t e = costOf (e .wh) (t .price)
+abbrev pub usageCost : Terms → Event → ℕ
+usageCost t e = costOf (e .wh) (t .price)
 
 unfoldable pub estimatedOf : Terms → Move → Event → Move
 estimatedOf t m e =
-    moved
-    (onDay m (Estimated (e .wh) (costIn t e)))
-    (stands (debited (tallied (m .totals) (e .day)) (costIn t e)) (m .totals .standing + costIn t e))
-    (costIn t e)
+    accepting
+    (onDay m (Estimated (e .wh) (usageCost t e)))
+    (withStanding (debited (tallied (m .totals) (e .day)) (usageCost t e)) (m .totals .standing + usageCost t e))
+    (usageCost t e)
 
 unfoldable pub meteredOf : Terms → Move → Event → ℕ → Move
 meteredOf t m e old =
-    moved
-    (onDay m (Metered (e .wh) (costIn t e)))
-    (stands (debited (credited (tallied (m .totals) (e .day)) old) (costIn t e)) (m .totals .standing - old))
-    (costIn t e)
+    accepting
+    (onDay m (Metered (e .wh) (usageCost t e)))
+    (withStanding (debited (credited (tallied (m .totals) (e .day)) old) (usageCost t e)) (m .totals .standing - old))
+    (usageCost t e)
 
 -- by the usage day's state
 abbrev pub byUsage : {A : Type 0} → Usage → A → (ℕ → A) → A → A
@@ -322,10 +194,10 @@ readOf t m e =
     (byUsage (m .day .usage) (meteredOf t m e 0) (λ (old : ℕ). meteredOf t m e old) (refusing m 8))
 
 unfoldable pub warnOf : Terms → Move → Event → Move
-warnOf t m e = moved (warning m) (tallied (m .totals) (e .day)) 0
+warnOf t m e = accepting (warning m) (tallied (m .totals) (e .day)) 0
 
 unfoldable pub markOf : Terms → Move → Event → Move
-markOf t m e = moved (marking m (e .kind) (e .from) (e .to)) (tallied (m .totals) (e .day)) 0
+markOf t m e = accepting (marking m (e .kind) (e .from) (e .to)) (tallied (m .totals) (e .day)) 0
 
 abbrev pub deferralOf : Terms → Totals → ℕ
 deferralOf t s = t .connect + s .debit - s .credit
@@ -333,22 +205,22 @@ deferralOf t s = t .connect + s .debit - s .credit
 unfoldable pub deferredOf : Terms → Move → Event → Move
 deferredOf t m e =
     cond (ltb 0 (m .totals .plan)) (refusing m 10)
-    (moved m
-    (planned (credited (tallied (m .totals) (e .day)) (deferralOf t (m .totals))) (m .totals .plan + deferralOf t (m .totals)))
+    (accepting m
+    (withPlan (credited (tallied (m .totals) (e .day)) (deferralOf t (m .totals))) (m .totals .plan + deferralOf t (m .totals)))
     (deferralOf t (m .totals)))
 
-abbrev pub planAllowed : Terms → Totals → List ℕ → Event → Bool
-planAllowed t s marks e =
+abbrev pub planConditionMet : Terms → Totals → List ℕ → Event → Bool
+planConditionMet t s marks e =
     cond (eqb (e .kind) 1)
     (leb (s .credit + 5000) (s .debit)
     && weatherNear marks (weekdayOn (t .opened) (e .day)) (e .day))
     (ltb (s .credit) (s .debit))
 
 unfoldable pub planOf : Terms → Move → List ℕ → Event → Move
-planOf t m marks e = cond (planAllowed t (m .totals) marks e) (deferredOf t m e) (refusing m 9)
+planOf t m marks e = cond (planConditionMet t (m .totals) marks e) (deferredOf t m e) (refusing m 9)
 
 unfoldable pub servedOf : Terms → Move → Event → Bool → Move
-servedOf t m e b = moved m (serves (tallied (m .totals) (e .day)) b) 0
+servedOf t m e b = accepting m (withService (tallied (m .totals) (e .day)) b) 0
 
 abbrev pub barredOn : Terms → List ℕ → Event → Bool
 barredOn t marks e = leb 5 (weekdayOn (t .opened) (e .day)) || barringOn marks (e .day)
@@ -365,39 +237,33 @@ connectOf t m e =
     cond (m .totals .on) (refusing m 11)
     (cond (ltb (m .totals .credit) (m .totals .debit + t .connect)) (refusing m 12) (servedOf t m e true))
 
-unfoldable pub bySort : Terms → Move → List ℕ → List ℕ → List ℕ → Event → Move
-bySort t m charges marks warned e =
-    cond (eqb (e .sort) 1) (payOf t m e)
-    (cond (eqb (e .sort) 2) (reverseOf t m e)
-    (cond (eqb (e .sort) 3) (creditOf t m e)
-    (cond (eqb (e .sort) 4) (chargeOf t m charges e)
-    (cond (eqb (e .sort) 5) (estimateOf t m e)
-    (cond (eqb (e .sort) 6) (readOf t m e)
-    (cond (eqb (e .sort) 7) (warnOf t m e)
-    (cond (eqb (e .sort) 8) (markOf t m e)
-    (cond (eqb (e .sort) 9) (planOf t m marks e)
-    (cond (eqb (e .sort) 10) (disconnectOf t m marks warned e)
-    (cond (eqb (e .sort) 11) (connectOf t m e) (refusing m 3)))))))))))
+-- the move of sort k
+unfoldable pub bySort : ℕ → Terms → Move → List ℕ → List ℕ → List ℕ → Event → Move
+bySort k t m charges marks warned e =
+    cond (eqb k 1) (payOf t m e)
+    (cond (eqb k 2) (reverseOf t m e)
+    (cond (eqb k 3) (creditOf t m e)
+    (cond (eqb k 4) (chargeOf t m charges e)
+    (cond (eqb k 5) (estimateOf t m e)
+    (cond (eqb k 6) (readOf t m e)
+    (cond (eqb k 7) (warnOf t m e)
+    (cond (eqb k 8) (markOf t m e)
+    (cond (eqb k 9) (planOf t m marks e)
+    (cond (eqb k 10) (disconnectOf t m marks warned e)
+    (cond (eqb k 11) (connectOf t m e) (refusing m 3)))))))))))
 
 -- A refusal of every sort first, then the sort's own.
 unfoldable pub moveOf : Terms → Move → List ℕ → List ℕ → List ℕ → Event → Move
 moveOf t m charges marks warned e =
-    cond (eqb (earlyCode t (m .totals) e) 0) (bySort t m charges marks warned e) (refusing m (earlyCode t (m .totals) e))
+    cond (eqb (earlyCode t (m .totals) e) 0) (bySort (e .sort) t m charges marks warned e) (refusing m (earlyCode t (m .totals) e))
 
--- What stands before an event: no answer yet, and the cells that it may change as they are. A number past the payments, or a day past the
--- account's, stands at its remainder: where the sort names the field the event is refused, else the cell is written back as it stood.
-unfoldable pub standing : Totals → Payment → Day → List ℕ → List ℕ → Event → Move
-standing s payment day charges warned e = record {
-  code = 0;
-  value = 0;
-  totals = s;
-  number = e .number % 128;
-  payment = payment;
-  day = day;
-  place = 0;
-  sum = getD charges 0 0;
-  warned = getD warned (e .day % 400) 0;
-  kind = 0;
-  from = 1;
-  to = 0;
-}
+-- Before an event: no answer yet, and the cells that it may change as they are. A number past the payments, or a day past the account's, is
+-- looked at by its remainder: where the sort names the field the event is refused, else the cell is written back as it was.
+unfoldable pub cellsBefore : Totals → Payment → Day → List ℕ → List ℕ → Event → Move
+cellsBefore s payment day charges warned e = move 0 0 s (e .number % 128) payment day 0 (getD charges 0 0) (getD warned (e .day % 400) 0) 0 1 0
+
+-- What `move_of` promises: the move, and that the places it names are there.
+pub record IsMove (t : Terms) (s : Totals) (payment : Payment) (day : Day) (charges marks warned : List ℕ) (e : Event) (m : Move) : Type 0 where
+  pub move : m ≡ moveOf t (cellsBefore s payment day charges warned e) charges marks warned e
+  pub number : m .number < 128
+  pub place : m .place < 75

@@ -1,4 +1,5 @@
 // Charges, summed by month and kind.
+use super::MAX_TOTAL;
 use super::Move;
 use super::accept;
 use super::refuse;
@@ -6,8 +7,6 @@ use ledger::Event;
 use terms::Terms;
 ghost use mathlib.Core.Path.{_≡_};
 ghost use Rattle.moves.specs.Moves.{earlyCode, chargeOf};
-
-const MOST: u64 = 1152921504606846976;
 
 pub(crate) fn charge(t: Terms, mut m: Move, charges: &[u64; 75], e: Event) -> Move
     requires { ⌜ (earlyCode t (m .totals) e ≡ 0) × (e .sort ≡ 4) ⌝ }
@@ -18,7 +17,7 @@ pub(crate) fn charge(t: Terms, mut m: Move, charges: &[u64; 75], e: Event) -> Mo
     let place = 5 * month + (e.kind - 1);
     let i = place as usize;
     let sum = charges[i];
-    if sum > MOST {
+    if sum > MAX_TOTAL {
         return refuse(m, 1);
     }
     m.place = place;

@@ -4,7 +4,7 @@ use ledger::Event;
 use terms::Terms;
 ghost use mathlib.Core.Path.{_≡_};
 ghost use Prim.Native.Nat.{_<_};
-ghost use Rattle.moves.specs.Moves.{isAccount, tallied, moved, refusing, earlyCode, bySort, moveOf, standing};
+ghost use Rattle.moves.specs.Moves.{isAccount, tallied, accepting, refusing, earlyCode, bySort, IsMove};
 
 mod charges;
 mod days;
@@ -48,7 +48,7 @@ pub struct Totals {
     pub on: bool,
 }
 
-// The answer, the totals, and the one cell of each array that the event may change; before the event, as they stand.
+// The answer, the totals, and the one cell of each array that the event may change; before the event, as they are.
 pub struct Move {
     pub code: u8,
     pub value: u64,
@@ -69,7 +69,8 @@ pub struct Move {
     pub to: u32,
 }
 
-const MOST: u64 = 1152921504606846976;
+// No account's total passes 2 ^ 60.
+pub const MAX_TOTAL: u64 = 1152921504606846976;
 
 // Whether the terms are within their limits and the totals within any account's reach, so that no sum of a step wraps.
 pub fn is_account(t: Terms, s: Totals) -> bool
@@ -78,16 +79,16 @@ pub fn is_account(t: Terms, s: Totals) -> bool
     if terms::check(t) != 0 {
         return false;
     }
-    if s.credit > MOST {
+    if s.credit > MAX_TOTAL {
         return false;
     }
-    if s.debit > MOST {
+    if s.debit > MAX_TOTAL {
         return false;
     }
-    if s.plan > MOST {
+    if s.plan > MAX_TOTAL {
         return false;
     }
-    if s.standing > MOST {
+    if s.standing > MAX_TOTAL {
         return false;
     }
     s.count <= 128
@@ -104,7 +105,7 @@ fn refuse(mut m: Move, k: u8) -> Move
 // The move of an accepted event of that day, with the value: these totals, with one more event.
 fn accept(mut m: Move, mut s: Totals, day: u32, value: u64) -> Move
     requires { ⌜ s .events < 4096 ⌝ }
-    ensures { λ r. ⌜ r ≡ moved m (tallied s day) value ⌝ }
+    ensures { λ r. ⌜ r ≡ accepting m (tallied s day) value ⌝ }
 {
     s.events = s.events + 1;
     s.last = day;
@@ -124,7 +125,7 @@ fn by_sort<'a>(
     e: Event,
 ) -> Move
     requires { ⌜ earlyCode t (m .totals) e ≡ 0 ⌝ }
-    ensures { λ r. ⌜ r ≡ bySort t m (now (charges .entry)) (now (marks .entry)) (now (warned .entry)) e ⌝ }
+    ensures { λ r. ⌜ r ≡ bySort (e .sort) t m (now (charges .entry)) (now (marks .entry)) (now (warned .entry)) e ⌝ }
 {
     let sort = e.sort;
     match sort {
@@ -143,9 +144,9 @@ fn by_sort<'a>(
     }
 }
 
-// The move of an event, of the totals, the payment at its number, its usage day, and the charges, marks and warnings as they stand.
-// A refusal moves nothing. A number past the payments, or a day past the account's, stands at its remainder: a sort that names the field
-// refuses it.
+// The move of an event, of the totals, the payment at its number, its usage day, and the charges, marks and warnings as they are.
+// A refusal moves nothing. A number past the payments, or a day past the account's, is looked at by its remainder: a sort that names the
+// field refuses it.
 pub fn move_of<'a>(
     t: Terms,
     s: Totals,
@@ -156,10 +157,10 @@ pub fn move_of<'a>(
     warned: &'a [u8; 400],
     e: Event,
 ) -> Move
-    ensures { λ r. ⌜ r ≡ moveOf t (standing s payment day (now (charges .entry)) (now (warned .entry)) e) (now (charges .entry)) (now (marks .entry)) (now (warned .entry)) e ⌝ }
+    ensures { λ r. ⌜ IsMove t s payment day (now (charges .entry)) (now (marks .entry)) (now (warned .entry)) e r ⌝ }
 {
     let at = (e.day % 400) as usize;
-    let stands = Move {
+    let before = Move {
         code: 0,
         value: 0,
         totals: s,
@@ -175,7 +176,7 @@ pub fn move_of<'a>(
     };
     let early = guard::early(t, s, e);
     if early != 0 {
-        return refuse(stands, early);
+        return refuse(before, early);
     }
-    by_sort(t, stands, charges, marks, warned, e)
+    by_sort(t, before, charges, marks, warned, e)
 }

@@ -8,18 +8,18 @@ use terms::Terms;
 ghost use mathlib.Core.Path.{_≡_};
 ghost use Prim.Native.Nat.{_-_, _*_, _/_, _<_, _≤_, min};
 ghost use Rattle.terms.specs.declared.Terms.{Terms};
-ghost use Rattle.moves.specs.Moves.{most, tallied, credited, moved, earlyCode, payOf, reverseOf};
+ghost use Rattle.moves.specs.Moves.{maxTotal, tallied, credited, accepting, earlyCode, payOf, reverseOf};
 
 // The smaller of the unpaid plan and the share of the amount, rounded down.
 fn plan_part(plan: u64, amount: u32, share: u32) -> u32
     requires { ⌜ share ≤ 50 ⌝ }
     ensures { λ r. ⌜ r ≡ min plan (amount * share / 100) ⌝ }
 {
-    let most = amount as u64 * share as u64 / 100;
-    if plan < most {
+    let shared = amount as u64 * share as u64 / 100;
+    if plan < shared {
         return plan as u32;
     }
-    most as u32
+    shared as u32
 }
 
 // a less b, or 0.
@@ -59,7 +59,7 @@ pub(crate) fn pay(t: Terms, mut m: Move, e: Event) -> Move
 }
 
 pub(crate) fn reverse(mut m: Move, e: Event) -> Move
-    requires { ⌜ (m .totals .events < 4096) × (m .totals .debit ≤ most) × (m .totals .plan ≤ most) ⌝ }
+    requires { ⌜ (m .totals .events < 4096) × (m .totals .debit ≤ maxTotal) × (m .totals .plan ≤ maxTotal) ⌝ }
     ensures { λ r. ⌜ ((t : Terms) → r ≡ reverseOf t m e) ⌝ }
 {
     if e.number >= m.totals.count {
@@ -79,8 +79,8 @@ pub(crate) fn reverse(mut m: Move, e: Event) -> Move
 }
 
 pub(crate) fn credit(m: Move, day: u32, amount: u32) -> Move
-    requires { ⌜ (m .totals .events < 4096) × (m .totals .credit ≤ most) ⌝ }
-    ensures { λ r. ⌜ r ≡ moved m (credited (tallied (m .totals) day) amount) 0 ⌝ }
+    requires { ⌜ (m .totals .events < 4096) × (m .totals .credit ≤ maxTotal) ⌝ }
+    ensures { λ r. ⌜ r ≡ accepting m (credited (tallied (m .totals) day) amount) 0 ⌝ }
 {
     let mut n = m.totals;
     n.credit = n.credit + amount as u64;

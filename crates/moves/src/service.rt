@@ -8,11 +8,11 @@ use marks::Found;
 use terms::Terms;
 ghost use mathlib.Core.Path.{_≡_};
 ghost use Prim.Native.Nat.{_<_, _≤_};
-ghost use Rattle.moves.specs.Moves.{most, tallied, serves, warning, marking, moved, earlyCode, planAllowed, planOf, disconnectOf, connectOf};
+ghost use Rattle.moves.specs.Moves.{maxTotal, tallied, withService, warning, marking, accepting, earlyCode, planConditionMet, planOf, disconnectOf, connectOf};
 
 pub(crate) fn warn(mut m: Move, day: u32) -> Move
     requires { ⌜ m .totals .events < 4096 ⌝ }
-    ensures { λ r. ⌜ r ≡ moved (warning m) (tallied (m .totals) day) 0 ⌝ }
+    ensures { λ r. ⌜ r ≡ accepting (warning m) (tallied (m .totals) day) 0 ⌝ }
 {
     let s = m.totals;
     m.warned = 1;
@@ -21,7 +21,7 @@ pub(crate) fn warn(mut m: Move, day: u32) -> Move
 
 pub(crate) fn mark(mut m: Move, e: Event) -> Move
     requires { ⌜ m .totals .events < 4096 ⌝ }
-    ensures { λ r. ⌜ r ≡ moved (marking m (e .kind) (e .from) (e .to)) (tallied (m .totals) (e .day)) 0 ⌝ }
+    ensures { λ r. ⌜ r ≡ accepting (marking m (e .kind) (e .from) (e .to)) (tallied (m .totals) (e .day)) 0 ⌝ }
 {
     let s = m.totals;
     m.kind = e.kind;
@@ -32,8 +32,8 @@ pub(crate) fn mark(mut m: Move, e: Event) -> Move
 
 // Whether the plan kind's condition holds.
 fn allowed(t: Terms, s: Totals, marks: &[u8; 400], e: Event) -> bool
-    requires { ⌜ s .credit ≤ most ⌝ }
-    ensures { λ r. ⌜ r ≡ planAllowed t s (now (marks .entry)) e ⌝ }
+    requires { ⌜ s .credit ≤ maxTotal ⌝ }
+    ensures { λ r. ⌜ r ≡ planConditionMet t s (now (marks .entry)) e ⌝ }
 {
     if e.kind != 1 {
         return s.credit < s.debit;
@@ -66,7 +66,7 @@ pub(crate) fn plan(t: Terms, m: Move, marks: &[u8; 400], e: Event) -> Move
 // The move of an accepted order: service on or off.
 fn served(m: Move, day: u32, on: bool) -> Move
     requires { ⌜ m .totals .events < 4096 ⌝ }
-    ensures { λ r. ⌜ r ≡ moved m (serves (tallied (m .totals) day) on) 0 ⌝ }
+    ensures { λ r. ⌜ r ≡ accepting m (withService (tallied (m .totals) day) on) 0 ⌝ }
 {
     let mut n = m.totals;
     n.on = on;

@@ -1,7 +1,8 @@
-pub mod Fields
 pub mod Refusals
+pub mod Fields
 pub mod Keeps
 pub mod Agreed
+pub mod Cells
 pub mod Payments
 pub mod Usage
 pub mod Service

@@ -14,7 +14,7 @@ use Rattle.ledger.specs.Calls.{ledgerCodes}
 use Rattle.ledger.proofs.Cases.{decide}
 use Rattle.ledger.proofs.Identity.{invariant-valid, invariant-step}
 use Rattle.account.specs.Record.{fresh}
-use Rattle.account.specs.Head.{stepOf, IsOpened}
+use Rattle.account.specs.Step.{stepOf, IsOpened}
 use Rattle.account.specs.declared.Account.{Account}
 use Rattle.account.specs.declared.Opened.{Opened}
 use Rattle.refinement.specs.Lists.{accountAfter, codesOf, Made}

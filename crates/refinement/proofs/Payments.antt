@@ -1,227 +1,149 @@
--- Payments, reversals, credits and charges: the head and the ledger answer alike and agree again.
+-- Payments, reversals, credits and charges refine the ledger's.
 -- Assumes nothing.
-use Prim.Native.Nat.{ℕ, zero, suc, _+_, _*_, _-_, _/_, _≤_, _<_, min}
+use Prim.Native.Nat.{ℕ, suc, _+_, _*_, _-_, _≤_, _<_}
 use native.Mathlib.Omega.{arith}
-use native.Mathlib.Nat.{mul-le-mul-left}
+use native.Mathlib.Nat.{mod-eq-of-lt}
 use mathlib.Core.Path.{_≡_, refl, sym, ap, _∙_}
-use mathlib.Core.Bool.{Bool, true, false, cond, not, _&&_, _||_, true≢false}
-use mathlib.Core.List.{List, [], _∷_}
+use mathlib.Core.Bool.{true, false, true≢false}
 use mathlib.Core.Logic.{inl, inr}
-use lib.ListN.{length, getD, set, length-set}
-use lib.Dec.{ltb, leb, eqb}
-use lib.IntN.{ℤ, pos, _+ℤ_, _-ℤ_}
-use borrow.Author.Tests.{leb-true, leb-false, le-leb, lt-leb, le-ltb}
-use Rattle.calendar.specs.Calendar.{isDay, opens, monthOn}
+use lib.ListN.{length, getD}
+use lib.Dec.{ltb, leb}
+use lib.IntN.{pos, _+ℤ_, _-ℤ_}
+use borrow.Author.Tests.{leb-false, le-leb, le-ltb}
+use Rattle.calendar.specs.Calendar.{isDay, monthOn}
 use Rattle.calendar.proofs.Laws.{month-limit}
 use Rattle.terms.specs.declared.Terms.{Terms}
 use Rattle.ledger.specs.declared.Event.{Event}
-use Rattle.ledger.specs.Entries.{Entries, lastDay, payments, payment, reversed}
+use Rattle.ledger.specs.Entries.{payments, payment, reversed}
 use Rattle.ledger.specs.Rules.{Ledger}
-use Rattle.ledger.specs.Sums.{standing}
 use Rattle.ledger.specs.Months.{monthOf}
-use Rattle.ledger.specs.Ledger.{Move, planPart, payMove, reverseMove, balanceMove, moved, refusal, ledgerStep}
-use Rattle.ledger.proofs.Cases.{decide, neither}
-use Rattle.ledger.proofs.Money.{diff, diff-add, diff-sub}
+use Rattle.ledger.specs.Ledger.{planPart, payMove, reverseMove, balanceMove, refusal}
 use Rattle.ledger.specs.Invariant.{Invariant}
-use Rattle.account.specs.Record.{refused, noPayment}
-use Rattle.account.specs.Head.{payOf, reverseOf, creditOf, chargeOf, partOf, paymentAt, chargeAt}
-use Rattle.account.specs.declared.Account.{Account}
+use Rattle.ledger.proofs.Cases.{decide}
+use Rattle.ledger.proofs.Money.{diff}
+use Rattle.moves.specs.Moves.{maxTotal, cellsBefore, partIn, chargePlace, payOf, reverseOf, creditOf, chargeOf}
+use Rattle.moves.specs.declared.Move.{Move}
 use Rattle.moves.specs.declared.Payment.{Payment}
+use Rattle.moves.proofs.Arms.{branch}
 use Rattle.moves.proofs.Early.{amount-limits, charge-limits}
-use Rattle.refinement.specs.Agree.{Agree, Sums, Bounds, Sizes, Same, paymentOf}
-use Rattle.refinement.proofs.Fields.{payments-same, payments-one}
-use Rattle.refinement.proofs.Refusals.{Passes, pay-code, reverse-code, credit-code, charge-code, takes, pay-move, reverse-move, credit-move, charge-move}
-use Rattle.refinement.proofs.Keeps.{payments-stay, days-stay, marks-stay, warned-stay, charges-stay, charges-set, payments-set, payments-reverse}
-use Rattle.refinement.proofs.Agreed.{refused-same, facts, standing-is, standing-still, agreed}
+use Rattle.account.specs.Record.{noPayment}
+use Rattle.account.specs.Step.{numberAt, cellsOf}
+use Rattle.account.specs.declared.Account.{Account}
+use Rattle.refinement.specs.Agree.{Agree, paymentOf}
+use Rattle.refinement.proofs.Refusals.{Passes, pay-code, reverse-code, credit-code, charge-code, pay-move, reverse-move, credit-move, charge-move}
+use Rattle.refinement.proofs.Keeps.{charges-set, payments-set, payments-reverse}
+use Rattle.refinement.proofs.Agreed.{Refines, refused-same, raised, lowered, facts}
+use Rattle.refinement.proofs.Cells.{Money, accepted}
 
-module _ (t : Terms) (a : Account) (l : Ledger) (e : Event) (g : Agree t a l) (s : Invariant t l) (h : Passes l e) where
-  part-is : partOf a e ≡ planPart t l (e .amount)
+module _ (a : Account) (l : Ledger) (e : Event) (g : Agree (a .terms) a l) (s : Invariant (a .terms) l) (h : Passes l e) where
+  abbrev t : Terms
+  t = a .terms
+
+  abbrev c : Move
+  c = cellsOf a e
+
+  part-is : partIn t (a .totals) e ≡ planPart t l (e .amount)
   unfolding planPart
-  part-is = rw (g .terms, g .sums .plan) refl
+  part-is = rw (g .sums .plan) refl
 
   unreversed : reversed (payments (l .list)) (l .list) ≡ false
   unreversed = decide (reversed (payments (l .list)) (l .list)) (λ r. absurd (omega (arith, s .numbers _ r))) (λ f. f)
 
-  room : a .totals .events + 1 ≤ 4096
-  room = omega (arith, facts t a l g e h .room)
-
-  pub pay-same : e .sort ≡ 1 → Same t (payOf a e) (ledgerStep t l e)
-  unfolding payOf payMove lastDay
-  pay-same k = decide (leb 128 (payments (l .list)))
-      (λ y. let y′ : leb 128 (a .totals .count) ≡ true = rw (g .sums .count) y in
-      simp y′ (refused-same t a l g e 5 (pay-code t l e h k ∙ simp y) refl))
-      (λ f. let f′ : leb 128 (a .totals .count) ≡ false = rw (g .sums .count) f in
-      let z : refusal t l e ≡ 0 = pay-code t l e h k ∙ simp f in
+  pub pays : e .sort ≡ 1 → Refines a l e (payOf t c e)
+  unfolding payOf payMove cellsBefore
+  pays k = branch (Refines a l e) (leb 128 (a .totals .count))
+      (λ y. refused-same a l g e 5 (pay-code t l e h k ∙ simp (rw (g .sums .count) at y)) refl)
+      (λ f. let f′ : leb 128 (payments (l .list)) ≡ false = rw (g .sums .count) at f in
       let p : ℕ = planPart t l (e .amount) in
-      let limit = amount-limits e (inl k) (h .limits) in
-      simp f′ (rw (takes t l e (payMove t l e) z (pay-move t l e k))
+      accepted a l e g s h (pay-code t l e h k ∙ simp f′) 1 k _ refl (payMove t l e)
+      (rw (part-is, g .sums .count) (payments-set t a e p (l .list) (g .kept) (rw k refl) (rw k refl) (g .sizes .payments) (leb-false 128 (payments (l .list)) f′) unreversed))
+      (pay-move t l e k) refl (g .sums .count)
       (record {
-        code = refl;
-        value = g .sums .count;
-        again = agreed t a l g e h s z _ (payMove t l e) (g .terms)
-            (record {
-              events = omega (arith, g .sums .events);
-              last = refl;
-              balance = ap (λ (z : ℤ). z +ℤ pos (e .amount - p)) (g .sums .balance)
-                  ∙ diff-add (a .totals .credit) (a .totals .debit) (e .amount - p)
-                  ∙ ap (λ (q : ℕ). diff (a .totals .credit + (e .amount - q)) (a .totals .debit)) (sym part-is);
-              plan = ap (λ (q : ℕ). a .totals .plan - q) part-is ∙ ap (λ (r : ℕ). r - p) (g .sums .plan);
-              on = g .sums .on;
-              standing = g .sums .standing ∙ standing-still t a l g e h s z p (rw k refl) (rw k refl);
-              count = rw (g .sums .count) (sym (payments-one e p (l .list) (rw k refl)));
-            })
-            (record {
-              full = room;
-              count = omega (arith, leb-false 128 (a .totals .count) f′);
-              credit = rw part-is (omega (arith, g .bounds .credit, limit .most));
-              debit = omega (arith, g .bounds .debit);
-              plan = omega (arith, g .bounds .plan);
-              standing = omega (arith, g .bounds .standing);
-            })
-            (record { payments = simp length-set (g .sizes .payments); days = g .sizes .days; marks = g .sizes .marks; warned = g .sizes .warned; charges = g .sizes .charges })
-            (rw (part-is, g .sums .count) (payments-set t a e p (l .list) (g .kept) (rw k refl) (rw k refl) (g .sizes .payments) (leb-false 128 (payments (l .list)) f) unreversed))
-            (days-stay t a e p (l .list) (g .kept) (rw k refl) (rw k refl))
-            (marks-stay t a e p (l .list) (g .kept) (rw k refl))
-            (warned-stay t a e p (l .list) (g .kept) (rw k refl))
-            (charges-stay t a e p (l .list) (g .kept) (rw k refl));
-      })))
-
-  -- the payment that is reversed, as both have it
-  payment-is : e .number < payments (l .list) → paymentAt a e ≡ paymentOf (e .number) (l .list)
-  payment-is y = g .kept .payments (e .number) y
-
-  reversing-same : e .sort ≡ 2 → leb (payments (l .list)) (e .number) ≡ false → reversed (e .number) (l .list) ≡ false → Same t (reverseOf a e) (ledgerStep t l e)
-  unfolding reverseOf reverseMove lastDay
-  reversing-same k f r =
-      let f′ : leb (a .totals .count) (e .number) ≡ false = rw (g .sums .count) f in
-      let y : e .number < payments (l .list) = leb-false (payments (l .list)) (e .number) f in
-      let q : paymentAt a e ≡ paymentOf (e .number) (l .list) = payment-is y in
-      let r′ : paymentAt a e .reversed ≡ false = ap (λ (x : Payment). x .reversed) q ∙ r in
-      let old = payment (e .number) (l .list) in
-      let back : ℕ = old .event .amount - old .part in
-      let z : refusal t l e ≡ 0 = reverse-code t l e h k ∙ simp (f, r) in
-      simp (f′, r′) (rw (takes t l e (reverseMove l e) z (reverse-move t l e k))
-      (record {
-        code = refl;
-        value = refl;
-        again = agreed t a l g e h s z _ (reverseMove l e) (g .terms)
-            (record {
-              events = omega (arith, g .sums .events);
-              last = refl;
-              balance = ap (λ (x : ℤ). x -ℤ pos back) (g .sums .balance)
-                  ∙ diff-sub (a .totals .credit) (a .totals .debit) back
-                  ∙ ap (λ (x : Payment). diff (a .totals .credit) (a .totals .debit + (x .amount - x .part))) (sym q);
-              plan = ap (λ (x : Payment). a .totals .plan + x .part) q ∙ ap (λ (x : ℕ). x + old .part) (g .sums .plan);
-              on = g .sums .on;
-              standing = g .sums .standing ∙ standing-still t a l g e h s z 0 (rw k refl) (rw k refl);
-              count = g .sums .count ∙ sym (payments-same e 0 (l .list) (rw k refl));
-            })
-            (record {
-              full = room;
-              count = g .bounds .count;
-              credit = omega (arith, g .bounds .credit);
-              debit = omega (arith, g .bounds .debit, ap (λ (x : Payment). x .amount) q, g .kept .amounts (e .number));
-              plan = omega (arith, g .bounds .plan, ap (λ (x : Payment). x .part) q, g .kept .amounts (e .number), s .parts (e .number));
-              standing = omega (arith, g .bounds .standing);
-            })
-            (record { payments = simp length-set (g .sizes .payments); days = g .sizes .days; marks = g .sizes .marks; warned = g .sizes .warned; charges = g .sizes .charges })
-            (rw q (payments-reverse t a e 0 (l .list) (g .kept) (rw k refl) (rw k refl) (g .sizes .payments) (omega (arith, g .bounds .count, g .sums .count)) y))
-            (days-stay t a e 0 (l .list) (g .kept) (rw k refl) (rw k refl))
-            (marks-stay t a e 0 (l .list) (g .kept) (rw k refl))
-            (warned-stay t a e 0 (l .list) (g .kept) (rw k refl))
-            (charges-stay t a e 0 (l .list) (g .kept) (rw k refl));
+        balance = raised a l g (e .amount - p) ∙ ap (λ (q : ℕ). diff (a .totals .credit + (e .amount - q)) (a .totals .debit)) (sym part-is);
+        plan = ap (λ (q : ℕ). a .totals .plan - q) part-is ∙ ap (λ (r : ℕ). r - p) (g .sums .plan);
+        on = g .sums .on;
+        credit-most = omega (arith, g .bounds .credit, amount-limits e (inl k) (h .limits) .most);
+        debit-most = omega (arith, g .bounds .debit);
+        plan-most = omega (arith, g .bounds .plan);
       }))
 
-  pub reverse-same : e .sort ≡ 2 → Same t (reverseOf a e) (ledgerStep t l e)
-  unfolding reverseOf
-  reverse-same k = decide (leb (payments (l .list)) (e .number))
-      (λ y. let y′ : leb (a .totals .count) (e .number) ≡ true = rw (g .sums .count) y in
-      simp y′ (refused-same t a l g e 6 (reverse-code t l e h k ∙ simp y) refl))
-      (λ f. decide (reversed (e .number) (l .list))
-      (λ r. let f′ : leb (a .totals .count) (e .number) ≡ false = rw (g .sums .count) f in
-      let r′ : paymentAt a e .reversed ≡ true = ap (λ (x : Payment). x .reversed) (payment-is (leb-false (payments (l .list)) (e .number) f)) ∙ r in
-      simp (f′, r′) (refused-same t a l g e 6 (reverse-code t l e h k ∙ simp (f, r)) refl))
-      (λ r. reversing-same k f r))
+  -- the payment that is reversed, as both have it
+  module _ (f : leb (a .totals .count) (e .number) ≡ false) where
+    there : e .number < payments (l .list)
+    there = omega (arith, leb-false (a .totals .count) (e .number) f, g .sums .count)
 
-  pub credit-same : e .sort ≡ 3 → Same t (creditOf a e) (ledgerStep t l e)
-  unfolding creditOf lastDay
-  credit-same k =
-      let z : refusal t l e ≡ 0 = credit-code t l e h k in
-      let limit = amount-limits e (inr k) (h .limits) in
-      rw (takes t l e (balanceMove l 0 (l .balance +ℤ pos (e .amount))) z (credit-move t l e k))
+    number-is : numberAt e ≡ e .number
+    number-is = mod-eq-of-lt (omega (arith, there, g .sums .count, g .bounds .count))
+
+    payment-is : c .payment ≡ paymentOf (e .number) (l .list)
+    unfolding cellsBefore
+    payment-is = ap (λ (i : ℕ). getD (a .payments) i noPayment) number-is ∙ g .kept .payments (e .number) there
+
+    reversing : e .sort ≡ 2 → Refines a l e (reverseOf t c e)
+    unfolding reverseOf reverseMove cellsBefore
+    reversing k = branch (Refines a l e) (leb (a .totals .count) (e .number)) (λ y. absurd (true≢false (sym y ∙ f)))
+        (λ _. branch (Refines a l e) (c .payment .reversed)
+        (λ r. refused-same a l g e 6 (reverse-code t l e h k ∙ simp (rw (g .sums .count) at f, sym (ap (λ (x : Payment). x .reversed) payment-is) ∙ r)) refl)
+        (λ r. let old = payment (e .number) (l .list) in
+        accepted a l e g s h (reverse-code t l e h k ∙ simp (rw (g .sums .count) at f, sym (ap (λ (x : Payment). x .reversed) payment-is) ∙ r)) 2 k _ refl (reverseMove l e)
+        (rw (number-is, g .kept .payments (e .number) there) (payments-reverse t a e 0 (l .list) (g .kept) (rw k refl) (rw k refl) (g .sizes .payments) (omega (arith, g .bounds .count, g .sums .count)) there))
+        (reverse-move t l e k) refl refl
+        (record {
+          balance = lowered a l g (old .event .amount - old .part) ∙ ap (λ (x : Payment). diff (a .totals .credit) (a .totals .debit + (x .amount - x .part))) (sym payment-is);
+          plan = ap (λ (x : Payment). a .totals .plan + x .part) payment-is ∙ ap (λ (x : ℕ). x + old .part) (g .sums .plan);
+          on = g .sums .on;
+          credit-most = omega (arith, g .bounds .credit);
+          debit-most = omega (arith, g .bounds .debit, ap (λ (x : Payment). x .amount) payment-is, g .kept .amounts (e .number));
+          plan-most = omega (arith, g .bounds .plan, ap (λ (x : Payment). x .part) payment-is, g .kept .amounts (e .number), s .parts (e .number));
+        })))
+
+  pub reverses : e .sort ≡ 2 → Refines a l e (reverseOf t c e)
+  unfolding reverseOf cellsBefore
+  reverses k = decide (leb (a .totals .count) (e .number))
+      (λ y. branch (Refines a l e) (leb (a .totals .count) (e .number))
+      (λ _. refused-same a l g e 6 (reverse-code t l e h k ∙ simp (rw (g .sums .count) at y)) refl)
+      (λ f. absurd (true≢false (sym y ∙ f))))
+      (λ f. reversing f k)
+
+  pub credits : e .sort ≡ 3 → Refines a l e (creditOf t c e)
+  unfolding creditOf cellsBefore
+  credits k = accepted a l e g s h (credit-code t l e h k) 3 k _ refl (balanceMove l 0 (l .balance +ℤ pos (e .amount))) tt (credit-move t l e k) refl refl
       (record {
-        code = refl;
-        value = refl;
-        again = agreed t a l g e h s z _ (balanceMove l 0 (l .balance +ℤ pos (e .amount))) (g .terms)
-            (record {
-              events = omega (arith, g .sums .events);
-              last = refl;
-              balance = ap (λ (x : ℤ). x +ℤ pos (e .amount)) (g .sums .balance) ∙ diff-add (a .totals .credit) (a .totals .debit) (e .amount);
-              plan = g .sums .plan;
-              on = g .sums .on;
-              standing = g .sums .standing ∙ standing-still t a l g e h s z 0 (rw k refl) (rw k refl);
-              count = g .sums .count ∙ sym (payments-same e 0 (l .list) (rw k refl));
-            })
-            (record {
-              full = room;
-              count = g .bounds .count;
-              credit = omega (arith, g .bounds .credit, limit .most);
-              debit = omega (arith, g .bounds .debit);
-              plan = omega (arith, g .bounds .plan);
-              standing = omega (arith, g .bounds .standing);
-            })
-            (record { payments = g .sizes .payments; days = g .sizes .days; marks = g .sizes .marks; warned = g .sizes .warned; charges = g .sizes .charges })
-            (payments-stay t a e 0 (l .list) (g .kept) (rw k refl) (rw k refl))
-            (days-stay t a e 0 (l .list) (g .kept) (rw k refl) (rw k refl))
-            (marks-stay t a e 0 (l .list) (g .kept) (rw k refl))
-            (warned-stay t a e 0 (l .list) (g .kept) (rw k refl))
-            (charges-stay t a e 0 (l .list) (g .kept) (rw k refl));
+        balance = raised a l g (e .amount);
+        plan = g .sums .plan;
+        on = g .sums .on;
+        credit-most = omega (arith, g .bounds .credit, amount-limits e (inr k) (h .limits) .most);
+        debit-most = omega (arith, g .bounds .debit);
+        plan-most = omega (arith, g .bounds .plan);
       })
 
   -- the event's day has a month
   a-day : isDay (t .opened) (e .day) ≡ true
-  a-day = simp (facts t a l g e h .opened, le-leb (e .day) 399 (facts t a l g e h .day))
+  a-day = simp (facts a l g e h .opened, le-leb (e .day) 399 (facts a l g e h .day))
 
   month-is : monthOn (t .opened) (e .day) ≡ monthOf t (e .day)
   month-is = simp a-day
 
-  pub charge-same : e .sort ≡ 4 → Same t (chargeOf a e) (ledgerStep t l e)
-  unfolding chargeOf lastDay
-  charge-same k =
-      let z : refusal t l e ≡ 0 = charge-code t l e h k in
+  -- no month's charges of a kind pass the largest total
+  small : e .sort ≡ 4 → ltb maxTotal (getD (a .charges) (chargePlace t e) 0) ≡ false
+  small k =
       let limit = charge-limits e k (h .limits) in
       let month : monthOf t (e .day) ≤ 14 = month-limit (t .opened) (e .day) a-day in
-      let at : ℕ = 5 * monthOn (t .opened) (e .day) + (e .kind - 1) in
-      let here : at ≡ 5 * monthOf t (e .day) + (e .kind - 1) = ap (λ (m : ℕ). 5 * m + (e .kind - 1)) month-is in
-      let sum : getD (a .charges) at 0 ≤ length (l .list) * 10000000 = rw (here, g .kept .charges (monthOf t (e .day)) (e .kind - 1) (omega arith) (omega (arith, limit .kind .most))) (g .kept .charged (monthOf t (e .day)) (suc (e .kind - 1))) in
-      let small : ltb 1152921504606846976 (getD (a .charges) at 0) ≡ false = le-ltb 1152921504606846976 (getD (a .charges) at 0) (omega (arith, sum, g .bounds .full, g .sums .events)) in
-      let small′ : ltb 1152921504606846976 (getD (a .charges) (chargeAt a e) 0) ≡ false = rw (g .terms) small in
-      simp small′ (rw (takes t l e (balanceMove l 0 (l .balance -ℤ pos (e .amount))) z (charge-move t l e k))
+      le-ltb maxTotal (getD (a .charges) (chargePlace t e) 0) (rw (month-is, g .kept .charges (monthOf t (e .day)) (e .kind - 1) (omega arith) (omega (arith, limit .kind .most)))
+      (omega (arith, g .kept .charged (monthOf t (e .day)) (suc (e .kind - 1)), g .bounds .full, g .sums .events)))
+
+  pub charged : e .sort ≡ 4 → Refines a l e (chargeOf t c (a .charges) e)
+  unfolding chargeOf cellsBefore
+  charged k = branch (Refines a l e) (ltb maxTotal (getD (a .charges) (chargePlace t e) 0)) (λ y. absurd (true≢false (sym y ∙ small k)))
+      (λ _. let limit = charge-limits e k (h .limits) in
+      accepted a l e g s h (charge-code t l e h k) 4 k _ refl (balanceMove l 0 (l .balance -ℤ pos (e .amount)))
+      (charges-set t a e 0 (l .list) (g .kept) (rw k refl) (g .sizes .charges) month-is (month-limit (t .opened) (e .day) a-day) (limit .kind .least) (limit .kind .most))
+      (charge-move t l e k) refl refl
       (record {
-        code = refl;
-        value = refl;
-        again = agreed t a l g e h s z _ (balanceMove l 0 (l .balance -ℤ pos (e .amount))) (g .terms)
-            (record {
-              events = omega (arith, g .sums .events);
-              last = refl;
-              balance = ap (λ (x : ℤ). x -ℤ pos (e .amount)) (g .sums .balance) ∙ diff-sub (a .totals .credit) (a .totals .debit) (e .amount);
-              plan = g .sums .plan;
-              on = g .sums .on;
-              standing = g .sums .standing ∙ standing-still t a l g e h s z 0 (rw k refl) (rw k refl);
-              count = g .sums .count ∙ sym (payments-same e 0 (l .list) (rw k refl));
-            })
-            (record {
-              full = room;
-              count = g .bounds .count;
-              credit = omega (arith, g .bounds .credit);
-              debit = omega (arith, g .bounds .debit, limit .amount .most);
-              plan = omega (arith, g .bounds .plan);
-              standing = omega (arith, g .bounds .standing);
-            })
-            (record { payments = g .sizes .payments; days = g .sizes .days; marks = g .sizes .marks; warned = g .sizes .warned; charges = simp length-set (g .sizes .charges) })
-            (payments-stay t a e 0 (l .list) (g .kept) (rw k refl) (rw k refl))
-            (days-stay t a e 0 (l .list) (g .kept) (rw k refl) (rw k refl))
-            (marks-stay t a e 0 (l .list) (g .kept) (rw k refl))
-            (warned-stay t a e 0 (l .list) (g .kept) (rw k refl))
-            (rw (g .terms) (charges-set t a e 0 (l .list) (g .kept) (rw k refl) (g .sizes .charges) month-is month (limit .kind .least) (limit .kind .most)));
+        balance = lowered a l g (e .amount);
+        plan = g .sums .plan;
+        on = g .sums .on;
+        credit-most = omega (arith, g .bounds .credit);
+        debit-most = omega (arith, g .bounds .debit, limit .amount .most);
+        plan-most = omega (arith, g .bounds .plan);
       }))

@@ -1,67 +1,84 @@
--- The head's step refines the ledger's: from a record and a ledger that agree, each event gets the same answer, and they agree again.
+-- The step refines the ledger's: from a record and a ledger that agree, each event gets the same answer, and they agree again.
 -- Assumes nothing.
-use Prim.Native.Nat.{ℕ, zero, suc, _+_, _*_, _≤_, _<_}
+use Prim.Native.Nat.{ℕ, _+_, _*_}
 use native.Mathlib.Omega.{arith}
-use mathlib.Core.Path.{_≡_, refl, sym, ap, _∙_}
-use mathlib.Core.Bool.{Bool, true, false, cond, not, _&&_, _||_, true≢false}
-use mathlib.Core.List.{List, [], _∷_}
-use lib.ListN.{length, getD, replicate, length-replicate, getD-replicate}
+use mathlib.Core.Path.{_≡_, refl, sym, _∙_, subst}
+use mathlib.Core.Bool.{true, false, _||_, true≢false}
+use lib.ListN.{length, length-replicate, getD-replicate}
 use lib.Dec.{ltb, leb, eqb}
-use borrow.Author.Tests.{eqb-true, eqb-false}
 use Rattle.terms.specs.Terms.{validTerms}
 use Rattle.terms.specs.declared.Terms.{Terms}
 use Rattle.ledger.specs.declared.Event.{Event}
 use Rattle.ledger.specs.Event.{inLimits}
 use Rattle.ledger.specs.Entries.{any, find, lastDay, payments, count, payment, reversed, usageDay, covered}
+use Rattle.ledger.specs.Entries as entries
 use Rattle.ledger.specs.Rules.{Ledger}
 use Rattle.ledger.specs.Sums.{standing}
 use Rattle.ledger.specs.Months.{chargesIn}
-use Rattle.ledger.specs.Ledger.{opening, ledgerStep}
-use Rattle.ledger.specs.Entries as entries
-use Rattle.ledger.proofs.Cases.{decide}
+use Rattle.ledger.specs.Ledger.{opening, refusal, ledgerStep}
 use Rattle.ledger.specs.Invariant.{Invariant}
+use Rattle.ledger.proofs.Cases.{decide}
+use Rattle.moves.specs.Moves.{cellsBefore, earlyCode, bySort, moveOf, refusing}
+use Rattle.moves.specs.declared.Move.{Move}
+use Rattle.moves.proofs.Arms as moves
 use Rattle.account.specs.Record.{fresh, blankDay, noPayment}
-use Rattle.moves.specs.Moves.{earlyCode}
-use Rattle.account.specs.Head.{bySort, stepOf}
+use Rattle.account.specs.Step.{cellsOf, stepOf}
 use Rattle.account.specs.declared.Account.{Account}
 use Rattle.refinement.specs.Agree.{Agree, Same, warnedOn}
 use Rattle.refinement.proofs.Refusals.{Passes, code-2, code-3, code-4}
-use Rattle.refinement.proofs.Agreed.{early-is, refused-same, passed}
-use Rattle.refinement.proofs.Payments.{pay-same, reverse-same, credit-same, charge-same}
-use Rattle.refinement.proofs.Usage.{estimate-same, read-same}
-use Rattle.refinement.proofs.Service.{warn-same, mark-same, plan-same, disconnect-same, connect-same}
+use Rattle.refinement.proofs.Agreed.{Refines, early-is, refused-same, passed}
+use Rattle.refinement.proofs.Payments.{pays, reverses, credits, charged}
+use Rattle.refinement.proofs.Usage.{estimates, reads}
+use Rattle.refinement.proofs.Service.{warns, marked, plans, disconnects, connects}
 
-module _ (t : Terms) (a : Account) (l : Ledger) (e : Event) (s : Invariant t l) (g : Agree t a l) where
-  no-sort : eqb (e .sort) 1 ≡ false → eqb (e .sort) 2 ≡ false → eqb (e .sort) 3 ≡ false → eqb (e .sort) 4 ≡ false → eqb (e .sort) 5 ≡ false → eqb (e .sort) 6 ≡ false → eqb (e .sort) 7 ≡ false
-      → eqb (e .sort) 8 ≡ false → eqb (e .sort) 9 ≡ false → eqb (e .sort) 10 ≡ false → eqb (e .sort) 11 ≡ false → inLimits e ≡ false
-  unfolding inLimits
-  no-sort f₁ f₂ f₃ f₄ f₅ f₆ f₇ f₈ f₉ f q = simp (f₁, f₂, f₃, f₄, f₅, f₆, f₇, f₈, f₉, f, q)
+module _ (a : Account) (l : Ledger) (e : Event) (s : Invariant (a .terms) l) (g : Agree (a .terms) a l) where
+  abbrev t : Terms
+  t = a .terms
 
-  by-sort : Passes l e → Same t (bySort a e) (ledgerStep t l e)
-  unfolding bySort
-  by-sort h =
-      decide (eqb (e .sort) 1) (λ k. simp k (pay-same t a l e g s h (eqb-true (e .sort) 1 k)))
-      (λ f₁. decide (eqb (e .sort) 2) (λ k. simp (f₁, k) (reverse-same t a l e g s h (eqb-true (e .sort) 2 k)))
-      (λ f₂. decide (eqb (e .sort) 3) (λ k. simp (f₁, f₂, k) (credit-same t a l e g s h (eqb-true (e .sort) 3 k)))
-      (λ f₃. decide (eqb (e .sort) 4) (λ k. simp (f₁, f₂, f₃, k) (charge-same t a l e g s h (eqb-true (e .sort) 4 k)))
-      (λ f₄. decide (eqb (e .sort) 5) (λ k. simp (f₁, f₂, f₃, f₄, k) (estimate-same t a l e g s h (eqb-true (e .sort) 5 k)))
-      (λ f₅. decide (eqb (e .sort) 6) (λ k. simp (f₁, f₂, f₃, f₄, f₅, k) (read-same t a l e g s h (eqb-true (e .sort) 6 k)))
-      (λ f₆. decide (eqb (e .sort) 7) (λ k. simp (f₁, f₂, f₃, f₄, f₅, f₆, k) (warn-same t a l e g s h (eqb-true (e .sort) 7 k)))
-      (λ f₇. decide (eqb (e .sort) 8) (λ k. simp (f₁, f₂, f₃, f₄, f₅, f₆, f₇, k) (mark-same t a l e g s h (eqb-true (e .sort) 8 k)))
-      (λ f₈. decide (eqb (e .sort) 9) (λ k. simp (f₁, f₂, f₃, f₄, f₅, f₆, f₇, f₈, k) (plan-same t a l e g s h (eqb-true (e .sort) 9 k)))
-      (λ f₉. decide (eqb (e .sort) 10) (λ k. simp (f₁, f₂, f₃, f₄, f₅, f₆, f₇, f₈, f₉, k) (disconnect-same t a l e g s h (eqb-true (e .sort) 10 k)))
-      (λ f. decide (eqb (e .sort) 11) (λ k. simp (f₁, f₂, f₃, f₄, f₅, f₆, f₇, f₈, f₉, f, k) (connect-same t a l e g s h (eqb-true (e .sort) 11 k)))
-      (λ q. absurd (true≢false (sym (h .limits) ∙ no-sort f₁ f₂ f₃ f₄ f₅ f₆ f₇ f₈ f₉ f q)))))))))))))
+  abbrev c : Move
+  c = cellsOf a e
 
-  pub refines : Same t (stepOf a e) (ledgerStep t l e)
-  unfolding stepOf
-  refines = decide (ltb (e .day) (lastDay (l .list)) || ltb 399 (e .day))
-      (λ d. let c : earlyCode (a .terms) (a .totals) e ≡ 2 = early-is t a l g e ∙ simp d in simp c (refused-same t a l g e 2 (code-2 t l e d) refl))
+  by-sort : Passes l e → Refines a l e (bySort (e .sort) t c (a .charges) (a .marks) (a .warned) e)
+  by-sort h = moves.by-sort t c (a .charges) (a .marks) (a .warned) e (Refines a l e) (record {
+    pays = pays a l e g s h;
+    reverses = reverses a l e g s h;
+    credits = credits a l e g s h;
+    charged = charged a l e g s h;
+    estimates = estimates a l e g s h;
+    reads = reads a l e g s h;
+    warns = warns a l e g s h;
+    marked = marked a l e g s h;
+    plans = plans a l e g s h;
+    disconnects = disconnects a l e g s h;
+    connects = connects a l e g s h;
+    other = λ f. absurd (true≢false (sym (h .limits) ∙ f));
+  })
+
+  -- the move of an event refused by the checks of every event, and of one that passes them
+  early : (k : ℕ) → earlyCode t (a .totals) e ≡ k → eqb k 0 ≡ false → refusal t l e ≡ k → Refines a l e (moveOf t c (a .charges) (a .marks) (a .warned) e)
+  unfolding moveOf cellsBefore
+  early k q f h = rw q (moves.branch (Refines a l e) (eqb k 0) (λ y. absurd (true≢false (sym y ∙ f))) (λ _. refused-same a l g e k h f))
+
+  late : Passes l e → Refines a l e (moveOf t c (a .charges) (a .marks) (a .warned) e)
+  unfolding moveOf cellsBefore
+  late h = rw (passed a l g e h) (by-sort h)
+
+  moves-refine : Refines a l e (moveOf t c (a .charges) (a .marks) (a .warned) e)
+  moves-refine = decide (ltb (e .day) (lastDay (l .list)) || ltb 399 (e .day))
+      (λ d. early 2 (early-is a l g e ∙ simp d) refl (code-2 t l e d))
       (λ d. decide (inLimits e)
       (λ i. decide (leb 4096 (length (l .list)))
-      (λ r. let c : earlyCode (a .terms) (a .totals) e ≡ 4 = early-is t a l g e ∙ simp (d, i, r) in simp c (refused-same t a l g e 4 (code-4 t l e d i r) refl))
-      (λ r. let h : Passes l e = record { days = d; limits = i; room = r } in simp (passed t a l g e h) (by-sort h)))
-      (λ i. let c : earlyCode (a .terms) (a .totals) e ≡ 3 = early-is t a l g e ∙ simp (d, i) in simp c (refused-same t a l g e 3 (code-3 t l e d i) refl)))
+      (λ r. early 4 (early-is a l g e ∙ simp (d, i, r)) refl (code-4 t l e d i r))
+      (λ r. late (record { days = d; limits = i; room = r })))
+      (λ i. early 3 (early-is a l g e ∙ simp (d, i)) refl (code-3 t l e d i)))
+
+  steps-refine : Same t (stepOf a e) (ledgerStep t l e)
+  unfolding stepOf
+  steps-refine = moves-refine .same
+
+pub refines : (t : Terms) (a : Account) (l : Ledger) (e : Event) → Invariant t l → Agree t a l → Same t (stepOf a e) (ledgerStep t l e)
+refines t a l e s g =
+    subst (λ (x : Terms). Invariant x l → Agree x a l → Same x (stepOf a e) (ledgerStep x l e)) (g .terms) (steps-refine a l e) s g
 
 -- a fresh account agrees with the opening ledger
 pub agree-fresh : (t : Terms) → validTerms t ≡ true → Agree t (fresh t) opening

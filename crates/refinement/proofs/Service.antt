@@ -1,45 +1,41 @@
--- Warnings, marks, plans, disconnects and connects: the head and the ledger answer alike and agree again.
+-- Warnings, marks, plans, disconnects and connects refine the ledger's.
 -- Assumes nothing.
-use Prim.Native.Nat.{ℕ, zero, suc, _+_, _*_, _-_, _≤_, _<_}
+use Prim.Native.Nat.{ℕ, suc, _+_, _*_, _-_, _≤_, _<_}
 use native.Mathlib.Omega.{arith}
-use native.Mathlib.Nat.{add-zero}
+use native.Mathlib.Nat.{add-zero, mod-eq-of-lt}
 use mathlib.Core.Path.{_≡_, refl, sym, ap, _∙_}
 use mathlib.Core.Bool.{Bool, true, false, cond, not, _&&_, _||_, true≢false, or-true}
-use mathlib.Core.List.{List, [], _∷_}
-use mathlib.Core.Logic.{inl, inr}
-use lib.ListN.{length, getD, set, length-set}
+use mathlib.Core.List.{[], _∷_}
+use lib.ListN.{getD}
 use lib.Dec.{ltb, leb, eqb}
-use lib.Bits.{bitAnd}
-use lib.IntN.{ℤ, pos, negℤ, natAbs, _+ℤ_, _-ℤ_}
+use lib.IntN.{ℤ, pos, negℤ, natAbs, _-ℤ_}
 use lib.Signed.{ltZ, leZ}
-use borrow.Author.Tests.{leb-true, leb-false, ltb-true, ltb-false, le-leb, lt-ltb, eqb-true, eqb-false, ne-eqb, eq-eqb}
-use Rattle.calendar.specs.Calendar.{isDay, opens, weekdayOn, weekdayOf, dateOn}
+use borrow.Author.Tests.{leb-true, ltb-true, le-leb, eqb-true, ne-eqb, eq-eqb}
+use Rattle.calendar.specs.Calendar.{opens, weekdayOn}
 use Rattle.calendar.proofs.Laws.{weekday-next}
 use Rattle.terms.specs.declared.Terms.{Terms}
-use Rattle.marks.specs.Marks.{isMissing, marked, barringOn, latestWarning, dayBefore}
+use Rattle.marks.specs.Marks.{isMissing, barringOn, latestWarning, dayBefore}
 use Rattle.marks.specs.Marks as marks
-use Rattle.marks.proofs.Laws.{marked-length, latest-some, latest-none, near-is, byte-weather, byte-barring}
+use Rattle.marks.proofs.Laws.{latest-some, latest-none, near-is, byte-weather, byte-barring}
 use Rattle.ledger.specs.declared.Event.{Event}
-use Rattle.ledger.specs.Event.{isPay, isReverse, isCharge, isEstimate, isRead, isWarn, isMark}
-use Rattle.ledger.specs.Entries.{Entry, Entries, any, lastDay, payments, warned, weather, weekday, covered, barred, business, weatherNear}
+use Rattle.ledger.specs.Event.{isWarn}
+use Rattle.ledger.specs.Entries.{Entries, any, warned, weather, weekday, covered, barred, business, weatherNear}
 use Rattle.ledger.specs.Rules.{Ledger, planAllowed}
-use Rattle.ledger.specs.Sums.{standing}
-use Rattle.ledger.specs.Ledger.{Move, serviceMove, planMove, deferred, moveOf, moved, refusal, ledgerStep}
+use Rattle.ledger.specs.Ledger.{serviceMove, planMove, deferred, moveOf, refusal}
+use Rattle.ledger.specs.Invariant.{Invariant}
 use Rattle.ledger.proofs.Cases.{decide, both}
 use Rattle.ledger.proofs.Money.{diff, diff-eq, diff-zero, diff-lt, diff-ge, diff-low, diff-gap}
-use Rattle.ledger.specs.Invariant.{Invariant}
-use Rattle.moves.specs.Moves.{tallied}
-use Rattle.account.specs.Record.{refused}
-use Rattle.moves.specs.Moves as moves
-use Rattle.account.specs.Head.{warnOf, markOf, deferral, deferredOf, planTest, planOf, servedOf, barredTest, disconnectOf, connectOf}
-use Rattle.account.specs.declared.Account.{Account}
-use Rattle.account.specs.declared.Posted.{Posted}
+use Rattle.moves.specs.Moves.{cellsBefore, tallied, withService, planConditionMet, deferralOf, barredOn, warnOf, markOf, deferredOf, planOf, servedOf, disconnectOf, connectOf}
+use Rattle.moves.specs.declared.Move.{Move}
+use Rattle.moves.proofs.Arms.{branch}
 use Rattle.moves.proofs.Early.{mark-limits}
-use Rattle.refinement.specs.Agree.{Agree, Sums, Bounds, Sizes, Same, marksOf, warnedOn}
-use Rattle.refinement.proofs.Fields.{payments-same}
-use Rattle.refinement.proofs.Refusals.{Passes, warn-code, mark-code, plan-code, disconnect-code, connect-code, takes, warn-move, mark-move, plan-move, disconnect-move, connect-move}
-use Rattle.refinement.proofs.Keeps.{payments-stay, days-stay, marks-stay, warned-stay, charges-stay, marks-set, warned-set}
-use Rattle.refinement.proofs.Agreed.{refused-same, facts, standing-still, agreed}
+use Rattle.account.specs.Step.{dayAt, cellsOf}
+use Rattle.account.specs.declared.Account.{Account}
+use Rattle.refinement.specs.Agree.{Agree, warnedOn}
+use Rattle.refinement.proofs.Refusals.{Passes, warn-code, mark-code, plan-code, disconnect-code, connect-code, warn-move, mark-move, plan-move, disconnect-move, connect-move}
+use Rattle.refinement.proofs.Keeps.{marks-set, warned-set}
+use Rattle.refinement.proofs.Agreed.{Refines, refused-same, facts}
+use Rattle.refinement.proofs.Cells.{Money, accepted}
 
 -- ---- a warning one to seven days old, by its day
 one-true : (b : Bool) → _≡_ {A = ℕ} (cond b 1 0) 1 → b ≡ true
@@ -76,12 +72,15 @@ warned-day x (n ∷ l) y = decide (isWarn (n .event) && (leb (n .event .day + 1)
     })
     (λ f. let d = warned-day x l (simp f at y) in record { day = d .day; on = simp (d .on, or-true); before = d .before; after = d .after })
 
-module _ (t : Terms) (a : Account) (l : Ledger) (e : Event) (g : Agree t a l) (s : Invariant t l) (h : Passes l e) where
-  room : a .totals .events + 1 ≤ 4096
-  room = omega (arith, facts t a l g e h .room)
+module _ (a : Account) (l : Ledger) (e : Event) (g : Agree (a .terms) a l) (s : Invariant (a .terms) l) (h : Passes l e) where
+  abbrev t : Terms
+  t = a .terms
+
+  abbrev c : Move
+  c = cellsOf a e
 
   day : e .day ≤ 399
-  day = facts t a l g e h .day
+  day = facts a l g e h .day
 
   -- the search finds a warning exactly where the ledger has one
   warning-is : isMissing (latestWarning (a .warned) (e .day)) ≡ not (warned (e .day) (l .list))
@@ -92,26 +91,26 @@ module _ (t : Terms) (a : Account) (l : Ledger) (e : Event) (g : Agree t a l) (s
       (λ w lo hi y. true≢false (sym (warned-by (e .day) w (l .list) (one-true (warnedOn w (l .list)) (sym (g .kept .warned w (omega (arith, lo, day))) ∙ y)) lo hi) ∙ f))))
 
   -- the event's day has a weekday
-  weekday-is : weekdayOn (a .terms .opened) (e .day) ≡ weekday t (e .day)
-  weekday-is = ap (λ (x : Terms). weekdayOn (x .opened) (e .day)) (g .terms) ∙ simp (facts t a l g e h .opened, le-leb (e .day) 399 day)
+  weekday-is : weekdayOn (t .opened) (e .day) ≡ weekday t (e .day)
+  weekday-is = simp (facts a l g e h .opened, le-leb (e .day) 399 day)
 
-  barred-is : barredTest a e ≡ barred t (e .day) (l .list)
+  barred-is : barredOn t (a .marks) e ≡ barred t (e .day) (l .list)
   unfolding barred barringOn
   barred-is = rw weekday-is (simp (le-leb (e .day) 399 day, g .kept .marks (e .day) (omega (arith, day)), byte-barring (covered 1 (e .day) (l .list)) (covered 2 (e .day) (l .list)) (covered 3 (e .day) (l .list))))
 
   -- the weekday before
   weekday-back : (d : ℕ) → dayBefore (weekday t (suc d)) ≡ weekday t d
-  weekday-back d = rw (weekday-next (t .opened) (facts t a l g e h .opened) d) (decide (eqb (weekday t d) 6)
+  weekday-back d = rw (weekday-next (t .opened) (facts a l g e h .opened) d) (decide (eqb (weekday t d) 6)
       (λ y. simp y (sym (eqb-true (weekday t d) 6 y)))
       (λ f. simp (f, ne-eqb (weekday t d + 1) 0 (λ z. omega arith)) (omega arith)))
 
-  near-same : marks.weatherNear (a .marks) (weekdayOn (a .terms .opened) (e .day)) (e .day) ≡ weatherNear t (l .list) (e .day)
+  near-same : marks.weatherNear (a .marks) (weekdayOn (t .opened) (e .day)) (e .day) ≡ weatherNear t (l .list) (e .day)
   unfolding weatherNear business
   near-same = rw weekday-is (near-is (a .marks) (weather (l .list)) (business t (l .list)) (weekday t)
       (λ d k. rw (g .kept .marks d k) (byte-weather (covered 1 d (l .list)) (covered 2 d (l .list)) (covered 3 d (l .list))))
       (λ d. refl) weekday-back (e .day) day)
 
-  plan-is : planTest a e ≡ planAllowed t l e
+  plan-is : planConditionMet t (a .totals) (a .marks) e ≡ planAllowed t l e
   unfolding planAllowed
   plan-is = ap (λ (z : Bool). cond (eqb (e .kind) 1) (leb (a .totals .credit + 5000) (a .totals .debit) && z) (ltb (a .totals .credit) (a .totals .debit))) near-same
       ∙ sym (ap (λ (b : ℤ). cond (eqb (e .kind) 1) (leZ b (negℤ (pos 5000)) && weatherNear t (l .list) (e .day)) (ltZ b (pos 0))) (g .sums .balance)
@@ -119,171 +118,89 @@ module _ (t : Terms) (a : Account) (l : Ledger) (e : Event) (g : Agree t a l) (s
       ∙ ap (λ (z : Bool). cond (eqb (e .kind) 1) (leb (a .totals .credit + 5000) (a .totals .debit) && weatherNear t (l .list) (e .day)) z)
       (diff-lt (a .totals .credit) (a .totals .debit) 0 ∙ ap (λ (n : ℕ). ltb (a .totals .credit) n) (add-zero (a .totals .debit))))
 
-  -- the totals of an event that moves no sum
-  still-sums : (b c : Bool) → b ≡ c → refusal t l e ≡ 0 → isPay e ≡ false → isRead e ≡ false → isEstimate e ≡ false → Sums t (moves.serves (tallied (a .totals) (e .day)) b) (moved l e (serviceMove l c))
-  unfolding lastDay
-  still-sums b c q z f r i = record {
-    events = omega (arith, g .sums .events);
-    last = refl;
+  -- B and R as they were
+  still : (b d : Bool) → b ≡ d → Money a (withService (tallied (a .totals) (e .day)) b) (serviceMove l d)
+  still b d q = record {
     balance = g .sums .balance;
     plan = g .sums .plan;
     on = q;
-    standing = g .sums .standing ∙ standing-still t a l g e h s z 0 r i;
-    count = g .sums .count ∙ sym (payments-same e 0 (l .list) f);
+    credit-most = omega (arith, g .bounds .credit);
+    debit-most = omega (arith, g .bounds .debit);
+    plan-most = omega (arith, g .bounds .plan);
   }
 
-  still-bounds : (b : Bool) → Bounds (moves.serves (tallied (a .totals) (e .day)) b)
-  still-bounds b = record {
-    full = room;
-    count = g .bounds .count;
-    credit = omega (arith, g .bounds .credit);
-    debit = omega (arith, g .bounds .debit);
-    plan = omega (arith, g .bounds .plan);
-    standing = omega (arith, g .bounds .standing);
-  }
+  unserved : Money a (tallied (a .totals) (e .day)) (serviceMove l (l .on))
+  unserved = still (a .totals .on) (l .on) (g .sums .on)
 
-  -- service that is what it was
-  on-is : (z : refusal t l e ≡ 0) → isPay e ≡ false → isRead e ≡ false → isEstimate e ≡ false → Sums t (tallied (a .totals) (e .day)) (moved l e (serviceMove l (l .on)))
-  on-is z f r i = still-sums (a .totals .on) (l .on) (g .sums .on) z f r i
+  pub warns : e .sort ≡ 7 → Refines a l e (warnOf t c e)
+  unfolding warnOf cellsBefore
+  warns k =
+      let on-day : dayAt e ≡ e .day = mod-eq-of-lt (omega (arith, day)) in
+      accepted a l e g s h (warn-code t l e h k) 7 k _ refl (serviceMove l (l .on)) (rw on-day (warned-set t a e 0 (l .list) (g .kept) (rw k refl) (g .sizes .warned) (omega (arith, day)))) (warn-move t l e k) refl refl unserved
 
-  pub warn-same : e .sort ≡ 7 → Same t (warnOf a e) (ledgerStep t l e)
-  unfolding warnOf
-  warn-same k =
-      let z : refusal t l e ≡ 0 = warn-code t l e h k in
-      rw (takes t l e (serviceMove l (l .on)) z (warn-move t l e k))
-      (record {
-        code = refl;
-        value = refl;
-        again = agreed t a l g e h s z _ (serviceMove l (l .on)) (g .terms) (on-is z (rw k refl) (rw k refl) (rw k refl)) (still-bounds (a .totals .on))
-            (record { payments = g .sizes .payments; days = g .sizes .days; marks = g .sizes .marks; warned = simp length-set (g .sizes .warned); charges = g .sizes .charges })
-            (payments-stay t a e 0 (l .list) (g .kept) (rw k refl) (rw k refl))
-            (days-stay t a e 0 (l .list) (g .kept) (rw k refl) (rw k refl))
-            (marks-stay t a e 0 (l .list) (g .kept) (rw k refl))
-            (warned-set t a e 0 (l .list) (g .kept) (rw k refl) (g .sizes .warned) (omega (arith, day)))
-            (charges-stay t a e 0 (l .list) (g .kept) (rw k refl));
-      })
-
-  pub mark-same : e .sort ≡ 8 → Same t (markOf a e) (ledgerStep t l e)
-  unfolding markOf
-  mark-same k =
-      let z : refusal t l e ≡ 0 = mark-code t l e h k in
+  pub marked : e .sort ≡ 8 → Refines a l e (markOf t c e)
+  unfolding markOf cellsBefore
+  marked k =
       let limit = mark-limits e k (h .limits) in
-      rw (takes t l e (serviceMove l (l .on)) z (mark-move t l e k))
-      (record {
-        code = refl;
-        value = refl;
-        again = agreed t a l g e h s z _ (serviceMove l (l .on)) (g .terms) (on-is z (rw k refl) (rw k refl) (rw k refl)) (still-bounds (a .totals .on))
-            (record { payments = g .sizes .payments; days = g .sizes .days; marks = marked-length (a .marks) (e .kind) (e .from) (e .to) ∙ g .sizes .marks; warned = g .sizes .warned; charges = g .sizes .charges })
-            (payments-stay t a e 0 (l .list) (g .kept) (rw k refl) (rw k refl))
-            (days-stay t a e 0 (l .list) (g .kept) (rw k refl) (rw k refl))
-            (marks-set t a e 0 (l .list) (g .kept) (rw k refl) (g .sizes .marks) (limit .kind .least) (limit .kind .most) (limit .to))
-            (warned-stay t a e 0 (l .list) (g .kept) (rw k refl))
-            (charges-stay t a e 0 (l .list) (g .kept) (rw k refl));
-      })
+      accepted a l e g s h (mark-code t l e h k) 8 k _ refl (serviceMove l (l .on)) (marks-set t a e 0 (l .list) (g .kept) (rw k refl) (g .sizes .marks) (limit .kind .least) (limit .kind .most) (limit .to)) (mark-move t l e k) refl refl unserved
 
   -- a plan is for a B below 0
-  short : planTest a e ≡ true → a .totals .credit ≤ a .totals .debit
+  short : planConditionMet t (a .totals) (a .marks) e ≡ true → a .totals .credit ≤ a .totals .debit
   short y = decide (eqb (e .kind) 1)
       (λ k. omega (arith, leb-true (a .totals .credit + 5000) (a .totals .debit) (both (leb (a .totals .credit + 5000) (a .totals .debit)) _ (simp k at y) .0)))
       (λ f. omega (arith, ltb-true (a .totals .credit) (a .totals .debit) (simp f at y)))
 
-  deferral-is : a .totals .credit ≤ a .totals .debit → deferral a ≡ deferred t l
+  deferral-is : a .totals .credit ≤ a .totals .debit → deferralOf t (a .totals) ≡ deferred t l
   unfolding deferred
-  deferral-is y = ap (λ (x : Terms). x .connect + a .totals .debit - a .totals .credit) (g .terms)
-      ∙ sym (ap (λ (b : ℤ). natAbs (pos (t .connect) -ℤ b)) (g .sums .balance) ∙ diff-gap (a .totals .credit) (a .totals .debit) (t .connect) y)
+  deferral-is y = sym (ap (λ (b : ℤ). natAbs (pos (t .connect) -ℤ b)) (g .sums .balance) ∙ diff-gap (a .totals .credit) (a .totals .debit) (t .connect) y)
 
-  deferred-same : e .sort ≡ 9 → planTest a e ≡ true → Same t (deferredOf a e) (ledgerStep t l e)
-  unfolding deferredOf planMove lastDay
-  deferred-same k y =
+  deferring : e .sort ≡ 9 → planConditionMet t (a .totals) (a .marks) e ≡ true → Refines a l e (deferredOf t c e)
+  unfolding deferredOf planMove cellsBefore
+  deferring k y =
       let allowed : planAllowed t l e ≡ true = sym plan-is ∙ y in
       let low : a .totals .credit ≤ a .totals .debit = short y in
-      let c : ℕ = a .totals .credit in
-      let d : ℕ = a .totals .debit in
-      let q : deferral a ≡ deferred t l = deferral-is low in
-      let q′ : deferral a ≡ t .connect + d - c = ap (λ (x : Terms). x .connect + d - c) (g .terms) in
-      decide (ltb 0 (l .plan))
-      (λ p. let p′ : ltb 0 (a .totals .plan) ≡ true = rw (g .sums .plan) p in
-      simp p′ (refused-same t a l g e 10 (plan-code t l e h k ∙ simp (allowed, p)) refl))
-      (λ p. let p′ : ltb 0 (a .totals .plan) ≡ false = rw (g .sums .plan) p in
-      let z : refusal t l e ≡ 0 = plan-code t l e h k ∙ simp (allowed, p) in
-      simp p′ (rw (takes t l e (planMove t l) z (plan-move t l e k))
+      let q : deferralOf t (a .totals) ≡ deferred t l = deferral-is low in
+      branch (Refines a l e) (ltb 0 (a .totals .plan))
+      (λ p. refused-same a l g e 10 (plan-code t l e h k ∙ simp (allowed, rw (g .sums .plan) at p)) refl)
+      (λ p. accepted a l e g s h (plan-code t l e h k ∙ simp (allowed, rw (g .sums .plan) at p)) 9 k _ refl (planMove t l) tt (plan-move t l e k) refl q
       (record {
-        code = refl;
-        value = q;
-        again = agreed t a l g e h s z _ (planMove t l) (g .terms)
-            (record {
-              events = omega (arith, g .sums .events);
-              last = refl;
-              balance = diff-zero (t .connect) ∙ diff-eq (t .connect) 0 (c + deferral a) d (omega (arith, q′));
-              plan = ap (λ (x : ℕ). x + deferral a) (g .sums .plan) ∙ ap (λ (x : ℕ). l .plan + x) q;
-              on = g .sums .on;
-              standing = g .sums .standing ∙ standing-still t a l g e h s z 0 (rw k refl) (rw k refl);
-              count = g .sums .count ∙ sym (payments-same e 0 (l .list) (rw k refl));
-            })
-            (record {
-              full = room;
-              count = g .bounds .count;
-              credit = omega (arith, g .bounds .credit, g .bounds .debit, q′, facts t a l g e h .connect, room);
-              debit = omega (arith, g .bounds .debit);
-              plan = omega (arith, g .bounds .plan, g .bounds .debit, q′, facts t a l g e h .connect, room);
-              standing = omega (arith, g .bounds .standing);
-            })
-            (record { payments = g .sizes .payments; days = g .sizes .days; marks = g .sizes .marks; warned = g .sizes .warned; charges = g .sizes .charges })
-            (payments-stay t a e 0 (l .list) (g .kept) (rw k refl) (rw k refl))
-            (days-stay t a e 0 (l .list) (g .kept) (rw k refl) (rw k refl))
-            (marks-stay t a e 0 (l .list) (g .kept) (rw k refl))
-            (warned-stay t a e 0 (l .list) (g .kept) (rw k refl))
-            (charges-stay t a e 0 (l .list) (g .kept) (rw k refl));
-      })))
+        balance = diff-zero (t .connect) ∙ diff-eq (t .connect) 0 (a .totals .credit + deferralOf t (a .totals)) (a .totals .debit) (omega arith);
+        plan = ap (λ (x : ℕ). x + deferralOf t (a .totals)) (g .sums .plan) ∙ ap (λ (x : ℕ). l .plan + x) q;
+        on = g .sums .on;
+        credit-most = omega (arith, g .bounds .credit, g .bounds .debit, g .bounds .full, facts a l g e h .connect);
+        debit-most = omega (arith, g .bounds .debit);
+        plan-most = omega (arith, g .bounds .plan, g .bounds .debit, g .bounds .full, facts a l g e h .connect);
+      }))
 
-  pub plan-same : e .sort ≡ 9 → Same t (planOf a e) (ledgerStep t l e)
-  unfolding planOf
-  plan-same k = decide (planTest a e)
-      (λ y. simp y (deferred-same k y))
-      (λ f. simp f (refused-same t a l g e 9 (plan-code t l e h k ∙ simp (sym plan-is ∙ f)) refl))
-
-  served-same : (b : Bool) (z : refusal t l e ≡ 0) → moveOf t l e ≡ serviceMove l b → isPay e ≡ false → isReverse e ≡ false → isCharge e ≡ false → isEstimate e ≡ false → isRead e ≡ false → isWarn e ≡ false → isMark e ≡ false
-      → Same t (servedOf a e b) (ledgerStep t l e)
-  unfolding servedOf
-  served-same b z m f₁ f₂ f₄ f₅ f₆ f₇ f₈ =
-      rw (takes t l e (serviceMove l b) z m)
-      (record {
-        code = refl;
-        value = refl;
-        again = agreed t a l g e h s z _ (serviceMove l b) (g .terms) (still-sums b b refl z f₁ f₆ f₅) (still-bounds b)
-            (record { payments = g .sizes .payments; days = g .sizes .days; marks = g .sizes .marks; warned = g .sizes .warned; charges = g .sizes .charges })
-            (payments-stay t a e 0 (l .list) (g .kept) f₁ f₂)
-            (days-stay t a e 0 (l .list) (g .kept) f₅ f₆)
-            (marks-stay t a e 0 (l .list) (g .kept) f₈)
-            (warned-stay t a e 0 (l .list) (g .kept) f₇)
-            (charges-stay t a e 0 (l .list) (g .kept) f₄);
-      })
+  pub plans : e .sort ≡ 9 → Refines a l e (planOf t c (a .marks) e)
+  unfolding planOf cellsBefore
+  plans k = branch (Refines a l e) (planConditionMet t (a .totals) (a .marks) e)
+      (λ y. deferring k y)
+      (λ f. refused-same a l g e 9 (plan-code t l e h k ∙ simp (sym plan-is ∙ f)) refl)
 
   -- B against a limit of the terms
-  cutoff-is : leb (a .totals .debit + a .terms .cutoff) (a .totals .credit) ≡ leZ (pos (t .cutoff)) (l .balance)
-  cutoff-is = ap (λ (x : Terms). leb (a .totals .debit + x .cutoff) (a .totals .credit)) (g .terms)
-      ∙ sym (ap (λ (b : ℤ). leZ (pos (t .cutoff)) b) (g .sums .balance) ∙ diff-ge (a .totals .credit) (a .totals .debit) (t .cutoff))
+  cutoff-is : leb (a .totals .debit + t .cutoff) (a .totals .credit) ≡ leZ (pos (t .cutoff)) (l .balance)
+  cutoff-is = sym (ap (λ (b : ℤ). leZ (pos (t .cutoff)) b) (g .sums .balance) ∙ diff-ge (a .totals .credit) (a .totals .debit) (t .cutoff))
 
-  connect-is : ltb (a .totals .credit) (a .totals .debit + a .terms .connect) ≡ ltZ (l .balance) (pos (t .connect))
-  connect-is = ap (λ (x : Terms). ltb (a .totals .credit) (a .totals .debit + x .connect)) (g .terms)
-      ∙ sym (ap (λ (b : ℤ). ltZ b (pos (t .connect))) (g .sums .balance) ∙ diff-lt (a .totals .credit) (a .totals .debit) (t .connect))
+  connect-is : ltb (a .totals .credit) (a .totals .debit + t .connect) ≡ ltZ (l .balance) (pos (t .connect))
+  connect-is = sym (ap (λ (b : ℤ). ltZ b (pos (t .connect))) (g .sums .balance) ∙ diff-lt (a .totals .credit) (a .totals .debit) (t .connect))
 
-  pub disconnect-same : e .sort ≡ 10 → Same t (disconnectOf a e) (ledgerStep t l e)
-  unfolding disconnectOf
-  disconnect-same k = decide (l .on)
-      (λ o. let o′ : a .totals .on ≡ true = g .sums .on ∙ o in decide (leZ (pos (t .cutoff)) (l .balance))
-      (λ b. simp (o′, cutoff-is ∙ b) (refused-same t a l g e 12 (disconnect-code t l e h k ∙ simp (o, b)) refl))
-      (λ b. decide (warned (e .day) (l .list))
-      (λ w. let w′ : isMissing (latestWarning (a .warned) (e .day)) ≡ false = warning-is ∙ ap not w in decide (barred t (e .day) (l .list))
-      (λ r. simp (o′, cutoff-is ∙ b, w′, barred-is ∙ r) (refused-same t a l g e 14 (disconnect-code t l e h k ∙ simp (o, b, w, r)) refl))
-      (λ r. simp (o′, cutoff-is ∙ b, w′, barred-is ∙ r) (served-same false (disconnect-code t l e h k ∙ simp (o, b, w, r)) (disconnect-move t l e k) (rw k refl) (rw k refl) (rw k refl) (rw k refl) (rw k refl) (rw k refl) (rw k refl))))
-      (λ w. simp (o′, cutoff-is ∙ b, warning-is ∙ ap not w) (refused-same t a l g e 13 (disconnect-code t l e h k ∙ simp (o, b, w)) refl))))
-      (λ o. simp (g .sums .on ∙ o) (refused-same t a l g e 11 (disconnect-code t l e h k ∙ simp o) refl))
+  pub disconnects : e .sort ≡ 10 → Refines a l e (disconnectOf t c (a .marks) (a .warned) e)
+  unfolding disconnectOf servedOf cellsBefore
+  disconnects k =
+      branch (Refines a l e) (not (a .totals .on)) (λ o. refused-same a l g e 11 (disconnect-code t l e h k ∙ simp (rw (g .sums .on) at o)) refl)
+      (λ o. let o′ : not (l .on) ≡ false = rw (g .sums .on) at o in
+      branch (Refines a l e) (leb (a .totals .debit + t .cutoff) (a .totals .credit)) (λ b. refused-same a l g e 12 (disconnect-code t l e h k ∙ simp (o′, sym cutoff-is ∙ b)) refl)
+      (λ b. let b′ = sym cutoff-is ∙ b in
+      branch (Refines a l e) (isMissing (latestWarning (a .warned) (e .day))) (λ w. refused-same a l g e 13 (disconnect-code t l e h k ∙ simp (o′, b′, sym warning-is ∙ w)) refl)
+      (λ w. let w′ = sym warning-is ∙ w in
+      branch (Refines a l e) (barredOn t (a .marks) e) (λ r. refused-same a l g e 14 (disconnect-code t l e h k ∙ simp (o′, b′, w′, sym barred-is ∙ r)) refl)
+      (λ r. accepted a l e g s h (disconnect-code t l e h k ∙ simp (o′, b′, w′, sym barred-is ∙ r)) 10 k _ refl (serviceMove l false) tt (disconnect-move t l e k) refl refl (still false false refl)))))
 
-  pub connect-same : e .sort ≡ 11 → Same t (connectOf a e) (ledgerStep t l e)
-  unfolding connectOf
-  connect-same k = decide (l .on)
-      (λ o. simp (g .sums .on ∙ o) (refused-same t a l g e 11 (connect-code t l e h k ∙ simp o) refl))
-      (λ o. let o′ : a .totals .on ≡ false = g .sums .on ∙ o in decide (ltZ (l .balance) (pos (t .connect)))
-      (λ b. simp (o′, connect-is ∙ b) (refused-same t a l g e 12 (connect-code t l e h k ∙ simp (o, b)) refl))
-      (λ b. simp (o′, connect-is ∙ b) (served-same true (connect-code t l e h k ∙ simp (o, b)) (connect-move t l e k) (rw k refl) (rw k refl) (rw k refl) (rw k refl) (rw k refl) (rw k refl) (rw k refl))))
+  pub connects : e .sort ≡ 11 → Refines a l e (connectOf t c e)
+  unfolding connectOf servedOf cellsBefore
+  connects k =
+      branch (Refines a l e) (a .totals .on) (λ o. refused-same a l g e 11 (connect-code t l e h k ∙ simp (rw (g .sums .on) at o)) refl)
+      (λ o. let o′ : l .on ≡ false = rw (g .sums .on) at o in
+      branch (Refines a l e) (ltb (a .totals .credit) (a .totals .debit + t .connect)) (λ b. refused-same a l g e 12 (connect-code t l e h k ∙ simp (o′, sym connect-is ∙ b)) refl)
+      (λ b. accepted a l e g s h (connect-code t l e h k ∙ simp (o′, sym connect-is ∙ b)) 11 k _ refl (serviceMove l true) tt (connect-move t l e k) refl refl (still true true refl)))

@@ -19,7 +19,7 @@ use Rattle.ledger.specs.Invariant.{Invariant}
 use Rattle.ledger.specs.Sums.{standing}
 use Rattle.ledger.specs.Months.{chargesIn}
 use Rattle.account.specs.Record.{blankDay, noPayment, costHeld, fresh}
-use Rattle.account.specs.Head.{stepOf}
+use Rattle.account.specs.Step.{stepOf}
 use Rattle.moves.specs.declared.Usage.{Usage}
 use Rattle.moves.specs.declared.Usage.the-variants.{Blank, Estimated, Metered}
 use Rattle.moves.specs.declared.Payment.{Payment}

@@ -9,7 +9,7 @@ use Rattle.ledger.specs.declared.Event.{Event}
 use Rattle.ledger.specs.Rules.{Ledger}
 use Rattle.ledger.specs.Ledger.{ledgerOf}
 use Rattle.ledger.specs.Calls.{Call, Back, fed, ledgerBack}
-use Rattle.account.specs.Head.{stepOf, openOf}
+use Rattle.account.specs.Step.{stepOf, openOf}
 use Rattle.account.specs.declared.Account.{Account}
 
 -- the account after the events, in order

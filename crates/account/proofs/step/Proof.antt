@@ -1,14 +1,11 @@
 -- `account::step` meets its contract: the move of what stands, written into the record.
 -- Assumes nothing.
 use borrow.Author.Needs.{needs}
-use Rattle.account.specs.Head.{stepOf}
-use Rattle.account.proofs.Enters.{Enters, usedAt, dayAt, entered}
+use borrow.Author.Tests.{eq-eqb, ne-eqb}
+use mathlib.Core.Path.{_≡_}
+use Rattle.account.specs.Step.{stepOf}
 use Rattle.account.proofs.step.Statement.{statement}
 use Rattle.account.proofs.step.Tie as tie
-
--- the move's places are there, and the record it is written into is the step's
-enters : (c : tie.After-move-of) → let a = c .before .before .before .before .before .before .before .before .before .before .before .args .a in let e = c .before .before .before .before .before .before .before .before .before .before .before .args .e in Enters a (usedAt e) (dayAt e) (c .move-of .result) (stepOf a e)
-enters c = rw (c .move-of .ensures) (entered _ _)
 
 cast-number : tie.Need-cast-number
 cast-number c = search needs
@@ -31,6 +28,10 @@ element-copy-out-day c = search needs
 move-of-requires : tie.Need-move-of-requires
 move-of-requires c κs = search needs
 
+returns : tie.Need-returns
+unfolding stepOf
+returns c = rw (← c .before .before .move-of .ensures .move, ne-eqb _ _ (c .if1 .taken))
+
 cast-paid : tie.Need-cast-paid
 cast-paid c = search needs
 
@@ -38,7 +39,7 @@ mul-paid : tie.Need-mul-paid
 mul-paid c = search needs
 
 element-set-from-paid : tie.Need-element-set-from-paid
-element-set-from-paid c = enters (c .before .before .before) .number
+element-set-from-paid c = c .before .before .before .before .before .move-of .ensures .number
 
 mul-used : tie.Need-mul-used
 mul-used c = search needs
@@ -53,7 +54,7 @@ mul-b : tie.Need-mul-b
 mul-b c = search needs
 
 element-write-b : tie.Need-element-write-b
-element-write-b c = enters (c .before .before .before .before .before) .place
+element-write-b c = c .before .before .before .before .before .before .before .move-of .ensures .place
 
 cast-b-2 : tie.Need-cast-b-2
 cast-b-2 c = search needs
@@ -64,8 +65,9 @@ element-write-b-2 c = search needs
 set-requires : tie.Need-set-requires
 set-requires c κs = search needs
 
-returns : tie.Need-returns
-returns c = rw (c .set .ensures) (enters (c .before .before .before .before .before .before .before .before) .same)
+returns-2 : tie.Need-returns-2
+unfolding stepOf
+returns-2 c = rw (c .set .ensures, ← c .before .before .before .before .before .before .before .before .before .before .move-of .ensures .move, eq-eqb _ _ (c .before .before .before .before .before .before .before .before .if1 .left))
 
 pub step-spec : {M : Type 1} → statement M
 step-spec =
@@ -78,6 +80,7 @@ step-spec =
     mul-day
     element-copy-out-day
     move-of-requires
+    returns
     cast-paid
     mul-paid
     element-set-from-paid
@@ -89,4 +92,4 @@ step-spec =
     cast-b-2
     element-write-b-2
     set-requires
-    returns)
+    returns-2)

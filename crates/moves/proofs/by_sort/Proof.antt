@@ -3,9 +3,9 @@ use mathlib.Core.Path.{_≡_, sym, _∙_}
 use mathlib.Core.Logic.{_⊎_, inl, inr}
 use Prim.Native.Nat.{ℕ, _+_, _≤_, zero-le}
 use native.Mathlib.Omega.{arith}
-use Rattle.moves.specs.Moves.{creditOf, warnOf, markOf}
+use Rattle.moves.specs.Moves.{creditOf, warnOf, markOf, bySort}
+use Rattle.moves.proofs.Arms.{of-sort}
 use Rattle.moves.proofs.Early.{Early, early, no-other}
-use Rattle.moves.proofs.Arms as arms
 use Rattle.moves.proofs.by_sort.Statement.{statement}
 use Rattle.moves.proofs.by_sort.Tie as tie
 use Rattle.moves.proofs.by_sort.Reads as reads
@@ -30,70 +30,78 @@ pay-requires : tie.Need-pay-requires
 pay-requires c κs = (c .before .pre, c .match .keys1)
 
 returns : tie.Need-returns
-returns c = c .pay .ensures ∙ sym (arms.pays _ _ _ _ _ _ (c .before .match .keys1))
+unfolding bySort
+returns c = c .pay .ensures ∙ sym (of-sort _ _ _ _ _ _ (c .before .match .keys1))
 
 reverse-requires : tie.Need-reverse-requires
 reverse-requires c κs = let k = known (c .before) in (k .room, k .debit, k .plan)
 
 returns-2 : tie.Need-returns-2
-returns-2 c = c .reverse .ensures _ ∙ sym (arms.reverses _ _ _ _ _ _ (c .before .match .keys2))
+unfolding bySort
+returns-2 c = c .reverse .ensures _ ∙ sym (of-sort _ _ _ _ _ _ (c .before .match .keys2))
 
 credit-requires : tie.Need-credit-requires
 credit-requires c κs = let k = known (c .before) in (k .room, k .credit)
 
 returns-3 : tie.Need-returns-3
-unfolding creditOf
-returns-3 c = c .credit .ensures ∙ sym (arms.credits _ _ _ _ _ _ (c .before .match .keys3))
+unfolding bySort creditOf
+returns-3 c = c .credit .ensures ∙ sym (of-sort _ _ _ _ _ _ (c .before .match .keys3))
 
 charge-requires : tie.Need-charge-requires
 charge-requires c κs = (c .before .pre, c .match .keys4)
 
 returns-4 : tie.Need-returns-4
-returns-4 c = c .charge .ensures ∙ sym (arms.charged _ _ _ _ _ _ (c .before .match .keys4))
+unfolding bySort
+returns-4 c = c .charge .ensures ∙ sym (of-sort _ _ _ _ _ _ (c .before .match .keys4))
 
 estimate-requires : tie.Need-estimate-requires
 estimate-requires c κs = (c .before .pre, c .match .keys5)
 
 returns-5 : tie.Need-returns-5
-returns-5 c = c .estimate .ensures ∙ sym (arms.estimates _ _ _ _ _ _ (c .before .match .keys5))
+unfolding bySort
+returns-5 c = c .estimate .ensures ∙ sym (of-sort _ _ _ _ _ _ (c .before .match .keys5))
 
 read-requires : tie.Need-read-requires
 read-requires c κs = (c .before .pre, c .match .keys6)
 
 returns-6 : tie.Need-returns-6
-returns-6 c = c .read .ensures ∙ sym (arms.reads _ _ _ _ _ _ (c .before .match .keys6))
+unfolding bySort
+returns-6 c = c .read .ensures ∙ sym (of-sort _ _ _ _ _ _ (c .before .match .keys6))
 
 warn-requires : tie.Need-warn-requires
 warn-requires c κs = known (c .before) .room
 
 returns-7 : tie.Need-returns-7
-unfolding warnOf
-returns-7 c = c .warn .ensures ∙ sym (arms.warns _ _ _ _ _ _ (c .before .match .keys7))
+unfolding bySort warnOf
+returns-7 c = c .warn .ensures ∙ sym (of-sort _ _ _ _ _ _ (c .before .match .keys7))
 
 mark-requires : tie.Need-mark-requires
 mark-requires c κs = known (c .before) .room
 
 returns-8 : tie.Need-returns-8
-unfolding markOf
-returns-8 c = c .mark .ensures ∙ sym (arms.marked _ _ _ _ _ _ (c .before .match .keys8))
+unfolding bySort markOf
+returns-8 c = c .mark .ensures ∙ sym (of-sort _ _ _ _ _ _ (c .before .match .keys8))
 
 plan-requires : tie.Need-plan-requires
 plan-requires c κs = (c .before .pre, c .match .keys9)
 
 returns-9 : tie.Need-returns-9
-returns-9 c = c .plan .ensures ∙ sym (arms.plans _ _ _ _ _ _ (c .before .match .keys9))
+unfolding bySort
+returns-9 c = c .plan .ensures ∙ sym (of-sort _ _ _ _ _ _ (c .before .match .keys9))
 
 disconnect-requires : tie.Need-disconnect-requires
 disconnect-requires c κs = (c .before .pre, c .match .keys10)
 
 returns-10 : tie.Need-returns-10
-returns-10 c = c .disconnect .ensures ∙ sym (arms.disconnects _ _ _ _ _ _ (c .before .match .keys10))
+unfolding bySort
+returns-10 c = c .disconnect .ensures ∙ sym (of-sort _ _ _ _ _ _ (c .before .match .keys10))
 
 connect-requires : tie.Need-connect-requires
 connect-requires c κs = (c .before .pre, c .match .keys11)
 
 returns-11 : tie.Need-returns-11
-returns-11 c = c .connect .ensures ∙ sym (arms.connects _ _ _ _ _ _ (c .before .match .keys11))
+unfolding bySort
+returns-11 c = c .connect .ensures ∙ sym (of-sort _ _ _ _ _ _ (c .before .match .keys11))
 
 refuse-requires : tie.Need-refuse-requires
 refuse-requires c κs = search needs

@@ -8,7 +8,7 @@ use Prim.Native.Nat.{_≤_}
 use lib.Dec.{leb}
 use Rattle.terms.specs.Terms.{termsCode}
 use Rattle.terms.specs.declared.Terms.{Terms}
-use Rattle.moves.specs.Moves.{most, isAccount}
+use Rattle.moves.specs.Moves.{maxTotal, isAccount}
 use Rattle.moves.specs.declared.Totals.{Totals}
 use Rattle.moves.proofs.is_account.Statement.{statement}
 use Rattle.moves.proofs.is_account.Tie as tie
@@ -36,10 +36,10 @@ returns-5 : tie.Need-returns-5
 unfolding isAccount
 returns-5 c = simp (lt-leb _ _ (c .if5 .taken), and-false)
 
-within : (t : Terms) (s : Totals) → termsCode t ≡ 0 → s .credit ≤ most → s .debit ≤ most → s .plan ≤ most → s .standing ≤ most → isAccount t s ≡ leb (s .count) 128
+within : (t : Terms) (s : Totals) → termsCode t ≡ 0 → s .credit ≤ maxTotal → s .debit ≤ maxTotal → s .plan ≤ maxTotal → s .standing ≤ maxTotal → isAccount t s ≡ leb (s .count) 128
 unfolding isAccount
 within t s terms credit debit plan standing =
-    simp (terms, le-leb (s .credit) most credit, le-leb (s .debit) most debit, le-leb (s .plan) most plan, le-leb (s .standing) most standing)
+    simp (terms, le-leb (s .credit) maxTotal credit, le-leb (s .debit) maxTotal debit, le-leb (s .plan) maxTotal plan, le-leb (s .standing) maxTotal standing)
 
 returns-6 : tie.Need-returns-6
 returns-6 c =

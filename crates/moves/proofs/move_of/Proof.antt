@@ -1,10 +1,13 @@
--- `moves::move_of` meets its contract: what stands is put together, refused early, or moved by the event's sort.
+-- `moves::move_of` meets its contract: the cells before are put together, refused early, or moved by the event's sort.
 -- Assumes nothing.
-use mathlib.Core.Path.{sym, ap, _∙_}
+use mathlib.Core.Path.{_≡_, sym, ap, _∙_}
+use native.Mathlib.Nat.{mod-lt}
+use native.Mathlib.Omega.{arith}
 use denote.Ref.{now}
 use borrow.Author.Needs.{needs}
-use Rattle.moves.specs.Moves.{refusing, standing}
-use Rattle.moves.proofs.Arms.{refused-early, goes-on}
+use Rattle.moves.specs.Moves.{refusing, cellsBefore, moveOf, IsMove}
+use Rattle.moves.specs.declared.Move.{Move}
+use Rattle.moves.proofs.Arms.{Sound, refused-early, goes-on, sound}
 use Rattle.moves.proofs.move_of.Statement.{statement}
 use Rattle.moves.proofs.move_of.Tie as tie
 
@@ -23,16 +26,29 @@ early-requires c κs = search needs
 refuse-requires : tie.Need-refuse-requires
 refuse-requires c κs = search needs
 
+-- the move's places are there
+there : (c : tie.Start) → let a = c .args in let m = cellsBefore (a .s) (a .payment) (a .day) (now (a .charges)) (now (a .warned)) (a .e) in Sound m (moveOf (a .t) m (now (a .charges)) (now (a .marks)) (now (a .warned)) (a .e))
+unfolding cellsBefore
+there c = sound _ _ _ _ _ _ (mod-lt (c .args .e .number) (omega arith), omega arith)
+
+is-move : (c : tie.Start) (r : Move) → let a = c .args in r ≡ moveOf (a .t) (cellsBefore (a .s) (a .payment) (a .day) (now (a .charges)) (now (a .warned)) (a .e)) (now (a .charges)) (now (a .marks)) (now (a .warned)) (a .e)
+    → IsMove (a .t) (a .s) (a .payment) (a .day) (now (a .charges)) (now (a .marks)) (now (a .warned)) (a .e) r
+is-move c r q = record { move = q; number = rw q (there c .number); place = rw q (there c .place) }
+
 returns : tie.Need-returns
-unfolding standing
-returns c = let a = c .before .before .before .before .before .before .before .args in c .refuse .ensures ∙ ap (refusing (standing (a .s) (a .payment) (a .day) (now (a .charges)) (now (a .warned)) (a .e))) (c .before .before .early .ensures) ∙ sym (refused-early _ _ _ _ _ _ (λ z. c .before .if1 .taken (c .before .before .early .ensures ∙ z)))
+unfolding cellsBefore
+returns c =
+    let s = c .before .before .before .before .before .before .before in
+    let a = s .args in
+    is-move s _ (c .refuse .ensures ∙ ap (refusing (cellsBefore (a .s) (a .payment) (a .day) (now (a .charges)) (now (a .warned)) (a .e))) (c .before .before .early .ensures) ∙ sym (refused-early _ _ _ _ _ _ (λ z. c .before .if1 .taken (c .before .before .early .ensures ∙ z))))
 
 by-sort-requires : tie.Need-by-sort-requires
 by-sort-requires c κs = search needs
 
 returns-2 : tie.Need-returns-2
-unfolding standing
-returns-2 c = c .by-sort .ensures ∙ sym (goes-on _ _ _ _ _ _ (sym (c .before .before .early .ensures) ∙ c .before .if1 .left))
+unfolding cellsBefore
+returns-2 c =
+    is-move (c .before .before .before .before .before .before .before) _ (c .by-sort .ensures ∙ sym (goes-on _ _ _ _ _ _ (sym (c .before .before .early .ensures) ∙ c .before .if1 .left)))
 
 pub move-of-spec : {M : Type 1} → statement M
 move-of-spec =

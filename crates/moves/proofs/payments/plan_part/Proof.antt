@@ -1,4 +1,4 @@
--- `moves::payments::plan_part` meets its contract: two 32-bit numbers have a product of 64 bits, and at most half of the amount is taken.
+-- `moves::payments::plan_part` meets its contract: two 32-bit numbers have a product of 64 bits, and at shared half of the amount is taken.
 -- Assumes nothing.
 use Prim.Native.Nat.{_≤_, _*_}
 use native.Mathlib.Omega.{arith}
@@ -10,8 +10,8 @@ use Rattle.moves.proofs.payments.plan_part.Tie as tie
 product : (c : tie.Start) → c .args .amount * c .args .share ≤ 4294967295 * 50
 product c = mul-le-mul {n₂ = 4294967295} {m₂ = 50} (omega arith) (c .pre)
 
-mul-most : tie.Need-mul-most
-mul-most c = omega (arith, product c)
+mul-shared : tie.Need-mul-shared
+mul-shared c = omega (arith, product c)
 
 cast-result : tie.Need-cast-result
 cast-result c = omega (arith, product (c .before))
@@ -26,4 +26,4 @@ returns-2 : tie.Need-returns-2
 returns-2 c = search needs
 
 pub plan-part-spec : {M : Type 1} → statement M
-plan-part-spec = tie.close (tie.spec mul-most cast-result returns cast-result-2 returns-2)
+plan-part-spec = tie.close (tie.spec mul-shared cast-result returns cast-result-2 returns-2)

@@ -1,0 +1,56 @@
+-- The step: the cells that an event may touch, moved, and written back into the record.
+use Prim.Native.Nat.{ℕ, _%_}
+use mathlib.Core.Path.{_≡_}
+use mathlib.Core.Bool.{cond}
+use lib.ListN.{getD, set}
+use lib.Dec.{eqb}
+use Rattle.terms.specs.Terms.{termsCode}
+use Rattle.terms.specs.declared.Terms.{Terms}
+use Rattle.ledger.specs.declared.Event.{Event}
+use Rattle.marks.specs.Marks.{marked}
+use Rattle.moves.specs.Moves.{cellsBefore, moveOf}
+use Rattle.moves.specs.declared.Move.{Move}
+use Rattle.account.specs.Record.{blankDay, noPayment, fresh}
+use Rattle.account.specs.declared.Account.{Account}
+use Rattle.account.specs.declared.Posted.{Posted}
+use Rattle.account.specs.declared.Opened.{Opened}
+
+abbrev pub openOf : Terms → Opened
+openOf t = record { account = fresh t; code = termsCode t }
+
+-- what `account::open` promises
+abbrev pub IsOpened : Terms → Opened → Type 0
+IsOpened t r = r ≡ openOf t
+
+-- where the event's payment, its usage day and its day are looked at
+abbrev pub numberAt : Event → ℕ
+numberAt e = e .number % 128
+
+abbrev pub usageAt : Event → ℕ
+usageAt e = e .usage % 400
+
+abbrev pub dayAt : Event → ℕ
+dayAt e = e .day % 400
+
+-- the cells that the event may touch, as they are
+abbrev pub cellsOf : Account → Event → Move
+cellsOf a e = cellsBefore (a .totals) (getD (a .payments) (numberAt e) noPayment) (getD (a .days) (usageAt e) blankDay) (a .charges) (a .warned) e
+
+-- the cells written back
+abbrev pub written : Account → Event → Move → Account
+written a e m = record {
+  terms = a .terms;
+  totals = m .totals;
+  days = set (a .days) (usageAt e) (m .day);
+  marks = marked (a .marks) (m .kind) (m .from) (m .to);
+  warned = set (a .warned) (dayAt e) (m .warned);
+  payments = set (a .payments) (m .number) (m .payment);
+  charges = set (a .charges) (m .place) (m .sum);
+}
+
+-- refused, the account is as it was; else the cells are written back
+abbrev pub posted : Account → Event → Move → Posted
+posted a e m = record { account = cond (eqb (m .code) 0) (written a e m) a; code = m .code; value = m .value }
+
+unfoldable pub stepOf : Account → Event → Posted
+stepOf a e = posted a e (moveOf (a .terms) (cellsOf a e) (a .charges) (a .marks) (a .warned) e)
