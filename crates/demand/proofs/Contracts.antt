@@ -23,7 +23,7 @@ use Rattle.ledger.specs.declared.Answer.{Answer}
 use Rattle.ledger.specs.Ledger.{opening}
 use Rattle.ledger.specs.Calls.{Call, single, row, Back, answered, written}
 use Rattle.moves.specs.declared.Totals.{Totals}
-use Rattle.account.specs.Head.{IsOpened}
+use Rattle.account.specs.Step.{IsOpened}
 use Rattle.account.specs.declared.Account.{Account}
 use Rattle.account.specs.declared.Opened.{Opened}
 use Rattle.account.proofs.open as open-call

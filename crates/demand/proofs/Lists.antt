@@ -24,7 +24,7 @@ use Rattle.ledger.proofs.Rows.{code-at}
 use Rattle.ledger.proofs.Identity.{settled-is}
 use Rattle.ledger.proofs.Disconnect.{disconnect-granted}
 use Rattle.ledger.proofs.Standing.{standing-none}
-use Rattle.account.specs.Head.{stepOf, openOf}
+use Rattle.account.specs.Step.{stepOf, openOf}
 use Rattle.account.specs.declared.Account.{Account}
 use Rattle.refinement.specs.Lists.{accountAfter}
 use Rattle.refinement.specs.Agree.{Stands}

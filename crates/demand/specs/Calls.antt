@@ -8,7 +8,7 @@ use Rattle.terms.specs.declared.Terms.{Terms}
 use Rattle.ledger.specs.declared.Answer.{Answer}
 use Rattle.ledger.specs.Calls.{Call, single, row, Back, answered, written}
 use Rattle.moves.specs.declared.Totals.{Totals}
-use Rattle.account.specs.Head.{IsOpened}
+use Rattle.account.specs.Step.{IsOpened}
 use Rattle.account.specs.declared.Account.{Account}
 use Rattle.account.specs.declared.Opened.{Opened}
 use Rattle.posting.specs.Posting.{Posts, PostsRow}

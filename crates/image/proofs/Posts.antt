@@ -6,7 +6,7 @@ use Rattle.ledger.specs.declared.Event.{Event}
 use Rattle.ledger.specs.Months.{noSummary}
 use Rattle.ledger.proofs.Cases.{decide}
 use Rattle.account.specs.Record.{fresh}
-use Rattle.account.specs.Head.{stepOf}
+use Rattle.account.specs.Step.{stepOf}
 use Rattle.account.specs.declared.Account.{Account}
 use Rattle.moves.proofs.Ways.{yes, no}
 use Rattle.image.specs.declared.Image.{Image}
@@ -26,7 +26,7 @@ module _ (e : Event) where
   unfolding postedOf imageAfter
   refusal-is i n =
       decide (isImage i)
-      (λ t. yes (isImage i) _ _ t ∙ ap imageOf (leaves (accountOf i) e .same n) ∙ inverse-holds .image-back i t)
+      (λ t. yes (isImage i) _ _ t ∙ ap imageOf (leaves (accountOf i) e n) ∙ inverse-holds .image-back i t)
       (λ f. no (isImage i) _ _ f)
 
   other-is : (i : Image) → isImage i ≡ false → postedOf i e .code ≡ 1

@@ -10,7 +10,7 @@ use Rattle.ledger.specs.declared.Event.{Event}
 use Rattle.ledger.specs.declared.Summary.{Summary}
 use Rattle.ledger.specs.Months.{noSummary}
 use Rattle.account.specs.Record.{fresh}
-use Rattle.account.specs.Head.{stepOf}
+use Rattle.account.specs.Step.{stepOf}
 use Rattle.moves.specs.declared.Usage.{Usage}
 use Rattle.moves.specs.declared.Usage.the-variants.{Blank, Estimated, Metered}
 use Rattle.moves.specs.declared.Day.{Day}

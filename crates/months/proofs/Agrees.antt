@@ -23,8 +23,8 @@ use Rattle.ledger.proofs.Cases.{decide, both}
 use Rattle.account.specs.Record.{costHeld}
 use Rattle.moves.specs.declared.Usage.{Usage}
 use Rattle.moves.specs.declared.Payment.{Payment}
-use Rattle.moves.specs.Moves.{isAccount, earlyCode}
-use Rattle.account.specs.Head.{stepOf}
+use Rattle.moves.specs.Moves.{isAccount, earlyCode, cellsBefore, moveOf}
+use Rattle.account.specs.Step.{stepOf}
 use Rattle.account.specs.declared.Account.{Account}
 use Rattle.refinement.specs.Lists.{Made}
 use Rattle.refinement.specs.Agree.{Agree, usageOf, paymentOf}
@@ -119,7 +119,7 @@ past : Event
 past = record { sort = 0; day = 400; amount = 0; number = 0; kind = 0; usage = 0; wh = 0; from = 0; to = 0 }
 
 past-refused : (a : Account) → isAccount (a .terms) (a .totals) ≡ true → stepOf a past .code ≡ 2
-unfolding stepOf earlyCode past
+unfolding stepOf moveOf cellsBefore earlyCode past
 past-refused a y = simp (y, or-true (ltb 400 (a .totals .last)))
 
 no-account : (a : Account) (m : ℕ) → ((e : Event) → stepOf a e .code ≡ 1) → summaryOf a m ≡ noSummary 1

@@ -13,7 +13,7 @@ use Rattle.ledger.specs.Rules.{Ledger}
 use Rattle.ledger.specs.Ledger.{ledgerStep, ledgerOf}
 use Rattle.ledger.specs.Calls.{Back, single, row, answered, written, fed, ledgerBack}
 use Rattle.ledger.proofs.Cases.{decide}
-use Rattle.account.specs.Head.{stepOf}
+use Rattle.account.specs.Step.{stepOf}
 use Rattle.account.specs.declared.Account.{Account}
 use Rattle.refinement.specs.Lists.{accountAfter, codesOf, Made, IsCalled}
 use Rattle.refinement.specs.Agree.{Stands}

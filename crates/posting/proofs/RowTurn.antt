@@ -10,7 +10,7 @@ use lib.ListN.{length, getD, set, take, drop, length-set, take-append-drop}
 use lib.Seq.{drop-cons, drop-length, take-suc-set, drop-set-lt}
 use lib.Dec.{ltb}
 use Rattle.ledger.specs.declared.Event.{Event}
-use Rattle.account.specs.Head.{stepOf}
+use Rattle.account.specs.Step.{stepOf}
 use Rattle.account.specs.declared.Account.{Account}
 use Rattle.refinement.specs.Lists.{accountAfter, codesOf}
 use Rattle.posting.specs.Posting.{Row, rowOf, PostsRow}

@@ -19,7 +19,7 @@ use denote.Triple.Spec.{tripleOf}
 use Rattle.ledger.specs.declared.Event.{Event}
 use Rattle.ledger.proofs.Event as E
 use Rattle.ledger.proofs.Event.Laws as E′
-use Rattle.account.specs.Head.{stepOf}
+use Rattle.account.specs.Step.{stepOf}
 use Rattle.account.specs.declared.Account.{Account}
 use Rattle.account.specs.declared.Posted.{Posted}
 use Rattle.account.proofs.Account as T

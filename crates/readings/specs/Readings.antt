@@ -7,19 +7,19 @@ use lib.IntN.{ℤ, pos, _-ℤ_}
 use Rattle.terms.specs.declared.Terms.{Terms}
 use Rattle.ledger.specs.Rules.{Ledger}
 use Rattle.ledger.specs.Sums as sums
-use Rattle.moves.specs.Moves.{most}
+use Rattle.moves.specs.Moves.{maxTotal}
 use Rattle.moves.specs.declared.Totals.{Totals}
 use Rattle.account.specs.declared.Account.{Account}
 use Rattle.refinement.specs.Lists.{IsLedgers}
 
 -- by the totals alone; 0 where they are past any account's reach
 unfoldable pub balanceOf : Totals → ℤ
-balanceOf s = cond (leb (s .credit) most && leb (s .debit) most) (pos (s .credit) -ℤ pos (s .debit)) (pos 0)
+balanceOf s = cond (leb (s .credit) maxTotal && leb (s .debit) maxTotal) (pos (s .credit) -ℤ pos (s .debit)) (pos 0)
 
 -- the balance less the unpaid plan, and the standing estimates' cost given back
 unfoldable pub settledOf : Totals → ℤ
 settledOf s =
-    cond (leb (s .credit) most && (leb (s .debit) most && (leb (s .plan) most && leb (s .standing) most)))
+    cond (leb (s .credit) maxTotal && (leb (s .debit) maxTotal && (leb (s .plan) maxTotal && leb (s .standing) maxTotal)))
     (pos (s .credit + s .standing) -ℤ pos (s .debit + s .plan))
     (pos 0)
 

@@ -1,12 +1,11 @@
 // The reading calls: balance, unpaid plan, service, settled amount, cost of the standing estimates.
 // It uses the account's totals. Each promise says the answer twice: off the totals, and in the ledger's terms.
+use moves::MAX_TOTAL;
 use moves::Totals;
 ghost use mathlib.Core.Path.{_≡_};
 ghost use Prim.Native.Nat.{_≤_};
 ghost use lib.IntN.{pos, _-ℤ_};
 ghost use Rattle.readings.specs.Readings.{IsBalance, IsPlan, IsService, IsSettled, IsEstimates};
-
-const MOST: u64 = 1152921504606846976;
 
 fn signed(up: u64, down: u64) -> i64
     requires { ⌜ (up ≤ 4611686018427387904) × (down ≤ 4611686018427387904) ⌝ }
@@ -19,10 +18,10 @@ fn signed(up: u64, down: u64) -> i64
 pub fn balance(s: Totals) -> i64
     ensures { λ r. ⌜ IsBalance s r ⌝ }
 {
-    if s.credit > MOST {
+    if s.credit > MAX_TOTAL {
         return 0;
     }
-    if s.debit > MOST {
+    if s.debit > MAX_TOTAL {
         return 0;
     }
     signed(s.credit, s.debit)
@@ -46,16 +45,16 @@ pub fn service(s: Totals) -> bool
 pub fn settled(s: Totals) -> i64
     ensures { λ r. ⌜ IsSettled s r ⌝ }
 {
-    if s.credit > MOST {
+    if s.credit > MAX_TOTAL {
         return 0;
     }
-    if s.debit > MOST {
+    if s.debit > MAX_TOTAL {
         return 0;
     }
-    if s.plan > MOST {
+    if s.plan > MAX_TOTAL {
         return 0;
     }
-    if s.standing > MOST {
+    if s.standing > MAX_TOTAL {
         return 0;
     }
     signed(s.credit + s.standing, s.debit + s.plan)

@@ -33,23 +33,23 @@ use Rattle.refinement.proofs.Refusals.{Passes, refuses}
 pub record Refines (a : Account) (l : Ledger) (e : Event) (x : Move) : Type 0 where
   pub same : Same (a .terms) (posted a e x) (ledgerStep (a .terms) l e)
 
+-- a record that agrees with a ledger is an account
+pub is-account : (t : Terms) (a : Account) (l : Ledger) → Agree t a l → isAccount (a .terms) (a .totals) ≡ true
+unfolding isAccount termsCode
+is-account t a l g =
+    let b = g .bounds in
+    simp
+    (g .terms, g .valid, le-leb (a .totals .credit) 1152921504606846976 (omega (arith, b .credit, b .full)), le-leb (a .totals .debit) 1152921504606846976 (omega (arith, b .debit, b .full)), le-leb (a .totals .plan) 1152921504606846976 (omega (arith, b .plan, b .full)), le-leb (a .totals .standing) 1152921504606846976 (omega (arith, b .standing, b .full)), le-leb (a .totals .count) 128 (b .count))
+
 module _ (a : Account) (l : Ledger) (g : Agree (a .terms) a l) where
   abbrev t : Terms
   t = a .terms
-
-  -- a record that agrees with a ledger is an account
-  pub is-account : isAccount t (a .totals) ≡ true
-  unfolding isAccount termsCode
-  is-account =
-      let b = g .bounds in
-      simp
-      (g .valid, le-leb (a .totals .credit) 1152921504606846976 (omega (arith, b .credit, b .full)), le-leb (a .totals .debit) 1152921504606846976 (omega (arith, b .debit, b .full)), le-leb (a .totals .plan) 1152921504606846976 (omega (arith, b .plan, b .full)), le-leb (a .totals .standing) 1152921504606846976 (omega (arith, b .standing, b .full)), le-leb (a .totals .count) 128 (b .count))
 
   -- the account's first checks are the ledger's
   pub early-is : (e : Event) → earlyCode t (a .totals) e
       ≡ cond (ltb (e .day) (lastDay (l .list)) || ltb 399 (e .day)) 2 (cond (inLimits e) (cond (leb 4096 (length (l .list))) 4 0) 3)
   unfolding earlyCode
-  early-is e = rw (is-account, g .sums .last, g .sums .events) refl
+  early-is e = rw (is-account t a l g, g .sums .last, g .sums .events) refl
 
   -- B with a credit, and with a debit
   pub raised : (n : ℕ) → l .balance +ℤ pos n ≡ diff (a .totals .credit + n) (a .totals .debit)

@@ -12,7 +12,7 @@ use Rattle.ledger.specs.declared.Event.{Event}
 use Rattle.ledger.specs.Rules.{Ledger}
 use Rattle.ledger.specs.Ledger.{ledgerStep}
 use Rattle.ledger.proofs.Cases.{decide}
-use Rattle.account.specs.Head.{stepOf}
+use Rattle.account.specs.Step.{stepOf}
 use Rattle.account.specs.declared.Account.{Account}
 use Rattle.scanner.specs.Scanner.{Read, got, broken}
 use Rattle.text.specs.Text.{readEvent}

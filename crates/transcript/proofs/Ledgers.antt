@@ -14,7 +14,7 @@ use Rattle.ledger.specs.Ledger.{opening, ledgerStep}
 use Rattle.ledger.specs.Sums.{standing}
 use Rattle.ledger.proofs.Cases.{decide}
 use Rattle.account.specs.Record.{fresh}
-use Rattle.account.specs.Head.{stepOf, openOf}
+use Rattle.account.specs.Step.{stepOf, openOf}
 use Rattle.account.specs.declared.Opened.{Opened}
 use Rattle.account.specs.declared.Account.{Account}
 use Rattle.refinement.specs.Agree.{Stands, Refinement}

@@ -8,7 +8,7 @@ use borrow.Author.Tests.{lt-ltb, le-ltb}
 use Rattle.terms.specs.Terms.{validTerms, termsCode}
 use Rattle.terms.specs.declared.Terms.{Terms}
 use Rattle.ledger.proofs.Cases.{decide}
-use Rattle.account.specs.Head.{openOf}
+use Rattle.account.specs.Step.{openOf}
 use Rattle.account.specs.declared.Opened.{Opened}
 use Rattle.refinement.proofs.Lists.{opened-valid}
 use Rattle.scanner.specs.Scanner.{Read, got}

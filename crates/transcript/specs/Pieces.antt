@@ -6,7 +6,7 @@ use mathlib.Core.List.{List, [], _++_}
 use lib.ListN.{length, take, drop}
 use lib.Dec.{eqb, leb, ltb}
 use Rattle.terms.specs.declared.Terms.{Terms}
-use Rattle.account.specs.Head.{stepOf, openOf}
+use Rattle.account.specs.Step.{stepOf, openOf}
 use Rattle.account.specs.declared.Account.{Account}
 use Rattle.account.specs.declared.Opened.{Opened}
 use Rattle.account.specs.declared.Posted.{Posted}

@@ -1,6 +1,6 @@
 use mathlib.Core.Path.{ap, _∙_}
 use borrow.Author.Needs.{needs}
-use Rattle.account.specs.Head.{stepOf}
+use Rattle.account.specs.Step.{stepOf}
 use Rattle.account.specs.declared.Account.{Account}
 use Rattle.account.specs.declared.Posted.{Posted}
 use Rattle.image.specs.Image.{imageAfter, postedOf}

@@ -41,7 +41,7 @@ use Rattle.ledger.proofs.Event as E
 use Rattle.ledger.proofs.Event.Laws as E′
 use Rattle.ledger.proofs.Answer as N
 use Rattle.ledger.proofs.Answer.Laws as N′
-use Rattle.account.specs.Head.{stepOf}
+use Rattle.account.specs.Step.{stepOf}
 use Rattle.account.specs.declared.Account.{Account}
 use Rattle.account.specs.declared.Posted.{Posted}
 use Rattle.account.proofs.Account as T

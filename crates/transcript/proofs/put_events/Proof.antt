@@ -1,12 +1,13 @@
 -- `transcript::put_events` meets its contract. Assumes nothing.
 use Prim.Native.Nat.{_-_}
-use mathlib.Core.Path.{_∙_}
+use mathlib.Core.Path.{_≡_, _∙_}
 use native.Mathlib.Omega.{arith}
 use lib.ListN.{length}
 use borrow.Author.Needs.{needs}
 use denote.Ref.{now}
-use Rattle.account.specs.Head.{stepOf}
-use Rattle.account.proofs.Enters.{Enters, usedAt, dayAt, entered}
+use Rattle.account.specs.Step.{stepOf, written}
+use Rattle.account.specs.declared.Posted.{Posted}
+use Rattle.account.proofs.Written.{written-always}
 use Rattle.text.specs.Text.{EventAt}
 use Rattle.text.specs.declared.EventRead.the-variants.{Got}
 use Rattle.transcript.proofs.Turn.{Going, begins, sized, turns, pauses, stops, ends}
@@ -23,9 +24,9 @@ abbrev μ-loop : tie.MeasureT-loop
 read-as : (c : tie.After-read Inv-loop μ-loop) → EventAt (now (c .before .before .before .before .before .before .before .before .before .args .text)) (c .before .before .before .before .before .loop .at) (Got (c .read .given .0 .0) (c .read .given .0 .1 .0))
 read-as c = rw (c .read .given .1) at (c .before .before .read-event .ensures)
 
--- the move's places are there, and the record it is written into is the step's
-enters : (c : tie.After-move-of Inv-loop μ-loop) → let b = c .before .before .before .before .before .before .before .before .before .before .before .before .before .before .before .before .before .loop .b in let e = c .before .before .before .before .before .before .before .before .before .before .before .before .read .given .0 .0 in Enters b (usedAt e) (dayAt e) (c .move-of .result) (stepOf b e)
-enters c = rw (c .move-of .ensures) (entered _ _)
+-- the record with the move written back is the step's
+is-step : (c : tie.After-move-of Inv-loop μ-loop) → let b = c .before .before .before .before .before .before .before .before .before .before .before .before .before .before .before .before .before .loop .b in let e = c .before .before .before .before .before .before .before .before .before .before .before .before .read .given .0 .0 in let m = c .move-of .result in _≡_ {A = Posted} (record { account = written b e m; code = m .code; value = m .value }) (stepOf b e)
+is-step c = rw (c .move-of .ensures .move) (written-always _ _)
 
 loop-holds : tie.Need-loop-holds Inv-loop μ-loop
 loop-holds c = begins _ _ _ _ _ (c .before .before .before .pre .3) (c .before .before .before .pre .2)
@@ -73,7 +74,7 @@ mul-paid : tie.Need-mul-paid Inv-loop μ-loop
 mul-paid c = search needs
 
 element-set-from-paid : tie.Need-element-set-from-paid Inv-loop μ-loop
-element-set-from-paid c = enters (c .before .before .before) .number
+element-set-from-paid c = c .before .before .before .move-of .ensures .number
 
 mul-used : tie.Need-mul-used Inv-loop μ-loop
 mul-used c = search needs
@@ -88,7 +89,7 @@ mul-b : tie.Need-mul-b Inv-loop μ-loop
 mul-b c = search needs
 
 element-write-b : tie.Need-element-write-b Inv-loop μ-loop
-element-write-b c = enters (c .before .before .before .before .before) .place
+element-write-b c = c .before .before .before .before .before .move-of .ensures .place
 
 cast-b-2 : tie.Need-cast-b-2 Inv-loop μ-loop
 cast-b-2 c = search needs
@@ -109,7 +110,7 @@ loop-less : tie.Need-loop-less Inv-loop μ-loop
 loop-less c = let e = read-as (c .before .before .before .before .before .before .before .before .before .before .before .before .before .before .before .before .before .before .before .before .before .before .before .before) in omega (arith, e .1, e .2, c .before .before .before .before .before .before .before .before .before .before .before .before .before .before .before .before .before .before .before .before .before .before .before .before .before .before .before .before .loop-test .taken)
 
 loop-again : tie.Need-loop-again Inv-loop μ-loop
-loop-again c = let e = read-as (c .before .before .before .before .before .before .before .before .before .before .before .before .before .before .before .before .before .before .before .before .before .before .before .before) in turns _ _ _ _ _ _ _ _ _ _ (c .before .before .before .before .before .before .before .before .before .before .before .before .before .before .before .before .before .before .before .before .before .before .before .before .before .before .before .before .before .loop .inv) _ _ _ _ _ (c .before .before .before .before .before .before .before .before .before .before .before .before .before .before .before .before .before .before .before .before .before .before .before .before .before .before .before .before .loop-test .taken) (e .0) (e .1) (e .2) (c .before .before .before .before .before .before .before .before .before .before .before .before .before .before .before .before .before .before .before .before .before .before .before .before .before .before .before .if1 .left) (rw (c .before .before .before .before .set .ensures) (enters (c .before .before .before .before .before .before .before .before .before .before .before .before) .same)) (c .before .before .put-event .ensures .0) (c .before .before .put-event .ensures .1)
+loop-again c = let e = read-as (c .before .before .before .before .before .before .before .before .before .before .before .before .before .before .before .before .before .before .before .before .before .before .before .before) in turns _ _ _ _ _ _ _ _ _ _ (c .before .before .before .before .before .before .before .before .before .before .before .before .before .before .before .before .before .before .before .before .before .before .before .before .before .before .before .before .before .loop .inv) _ _ _ _ _ (c .before .before .before .before .before .before .before .before .before .before .before .before .before .before .before .before .before .before .before .before .before .before .before .before .before .before .before .before .loop-test .taken) (e .0) (e .1) (e .2) (c .before .before .before .before .before .before .before .before .before .before .before .before .before .before .before .before .before .before .before .before .before .before .before .before .before .before .before .if1 .left) (rw (c .before .before .before .before .set .ensures) (is-step (c .before .before .before .before .before .before .before .before .before .before .before .before))) (c .before .before .put-event .ensures .0) (c .before .before .put-event .ensures .1)
 
 enum-told : tie.Need-enum-told Inv-loop μ-loop
 enum-told c = search needs
