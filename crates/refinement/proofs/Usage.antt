@@ -70,10 +70,11 @@ module _ (a : Account) (l : Ledger) (e : Event) (g : Agree (a .terms) a l) (s : 
         let z : refusal t l e ≡ 0 = estimate-code t l e h k ∙ simp (f, y) in
         let free : (any (readOn (e .usage)) (l .list) || any (estimateOn (e .usage)) (l .list)) ≡ false = not-true _ (sym (blank-is t (l .list) (e .usage)) ∙ y) in
         let most = cost-on t (a .totals) e (facts a l g e h) (inl k) in
-        accepted a l e g s h z 5 k _ refl (estimateMove t l e)
-        (rw usage-is (days-set t a e 0 (l .list) (g .kept) (estimated (e .wh) (usageCost t e)) (g .sizes .days) used (usage-estimated e 0 (l .list) t (rw k refl) (rw k refl) (neither _ _ free .0))),
-        omega (arith, g .sums .standing, simp (sort-is k 6 refl, sort-is k 5 refl) at (standing-is a l g e h s z 0), cost-is),
-        omega (arith, g .bounds .standing, most))
+        accepted a l e g s h z 5 k _ refl (estimateMove t l e) (
+          rw usage-is (days-set t a e 0 (l .list) (g .kept) (estimated (e .wh) (usageCost t e)) (g .sizes .days) used (usage-estimated e 0 (l .list) t (rw k refl) (rw k refl) (neither _ _ free .0))),
+          omega (arith, g .sums .standing, simp (sort-is k 6 refl, sort-is k 5 refl) at (standing-is a l g e h s z 0), cost-is),
+          omega (arith, g .bounds .standing, most),
+        )
         (estimate-move t l e k) refl cost-is
         (record {
           balance = lowered a l g (eventCost t l e) ∙ ap (λ (x : ℕ). diff (a .totals .credit) (a .totals .debit + x)) (sym cost-is);
@@ -89,10 +90,11 @@ module _ (a : Account) (l : Ledger) (e : Event) (g : Agree (a .terms) a l) (s : 
     reading old k y q small =
         let z : refusal t l e ≡ 0 = read-code t l e h k ∙ simp (f, y) in
         let most = cost-on t (a .totals) e (facts a l g e h) (inr k) in
-        accepted a l e g s h z 6 k _ refl (readMove t l e)
-        (rw usage-is (days-set t a e 0 (l .list) (g .kept) (metered (e .wh) (usageCost t e)) (g .sizes .days) used (usage-metered e 0 (l .list) t (rw k refl))),
-        omega (arith, g .sums .standing, simp (sort-is k 6 refl, sort-is k 5 refl) at (standing-is a l g e h s z 0), q),
-        omega (arith, g .bounds .standing))
+        accepted a l e g s h z 6 k _ refl (readMove t l e) (
+          rw usage-is (days-set t a e 0 (l .list) (g .kept) (metered (e .wh) (usageCost t e)) (g .sizes .days) used (usage-metered e 0 (l .list) t (rw k refl))),
+          omega (arith, g .sums .standing, simp (sort-is k 6 refl, sort-is k 5 refl) at (standing-is a l g e h s z 0), q),
+          omega (arith, g .bounds .standing),
+        )
         (read-move t l e k) refl cost-is
         (record {
           balance = ap (λ (x : ℤ). x -ℤ pos (eventCost t l e)) (raised a l g (estimateCost state))

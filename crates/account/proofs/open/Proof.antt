@@ -4,14 +4,8 @@ use borrow.Author.Needs.{needs}
 use Rattle.account.proofs.open.Statement.{statement}
 use Rattle.account.proofs.open.Tie as tie
 
-empty-requires : tie.Need-empty-requires
-empty-requires c κs = search needs
-
-check-requires : tie.Need-check-requires
-check-requires c κs = search needs
-
 returns : tie.Need-returns
 returns c = rw (c .before .empty .ensures, c .check .ensures)
 
 pub open-spec : {M : Type 1} → statement M
-open-spec = tie.close (tie.spec empty-requires check-requires returns)
+open-spec = tie.close (tie.spec (λ c κs. search needs) (λ c κs. search needs) returns)

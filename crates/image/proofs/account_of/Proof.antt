@@ -8,15 +8,6 @@ use Rattle.image.specs.Image.{accountOf}
 use Rattle.image.proofs.account_of.Statement.{statement}
 use Rattle.image.proofs.account_of.Tie as tie
 
-is-image-requires : tie.Need-is-image-requires
-is-image-requires c κs = search needs
-
-no-terms-requires : tie.Need-no-terms-requires
-no-terms-requires c κs = search needs
-
-open-requires : tie.Need-open-requires
-open-requires c κs = search needs
-
 returns : tie.Need-returns
 unfolding accountOf
 returns c =
@@ -24,15 +15,6 @@ returns c =
     ap (λ (x : Opened). x .account) (c .before .«open» .ensures)
     ∙ ap fresh (n .no-terms .ensures)
     ∙ sym (no _ _ _ (sym (n .before .before .is-image .ensures) ∙ not-true _ (n .before .if1 .taken)))
-
-totals-of-requires : tie.Need-totals-of-requires
-totals-of-requires c κs = search needs
-
-days-of-requires : tie.Need-days-of-requires
-days-of-requires c κs = search needs
-
-payments-of-requires : tie.Need-payments-of-requires
-payments-of-requires c κs = search needs
 
 returns-2 : tie.Need-returns-2
 unfolding accountOf
@@ -47,11 +29,11 @@ pub account-of-spec : {M : Type 1} → statement M
 account-of-spec =
     tie.close
     (tie.spec
-    is-image-requires
-    no-terms-requires
-    open-requires
+    (λ c κs. search needs)
+    (λ c κs. search needs)
+    (λ c κs. search needs)
     returns
-    totals-of-requires
-    days-of-requires
-    payments-of-requires
+    (λ c κs. search needs)
+    (λ c κs. search needs)
+    (λ c κs. search needs)
     returns-2)

@@ -18,25 +18,10 @@ abbrev μ-loop : tie.MeasureT-loop
 loop-holds : tie.Need-loop-holds Inv-loop μ-loop
 loop-holds c = starts isDayImage 400 _ (search needs)
 
-mul-is-day-image : tie.Need-mul-is-day-image Inv-loop μ-loop
-mul-is-day-image c = search needs
-
-array-copy-out-is-day-image : tie.Need-array-copy-out-is-day-image Inv-loop μ-loop
-array-copy-out-is-day-image c = search needs
-
-is-day-image-requires : tie.Need-is-day-image-requires Inv-loop μ-loop
-is-day-image-requires c κs = search needs
-
 returns : tie.Need-returns Inv-loop μ-loop
 returns c =
     let l = c .before .before .before .before .loop in
     sym (stops isDayImage 400 _ (l .i) _ (c .before .before .before .loop-test .taken) (sym (c .before .is-day-image .ensures) ∙ not-true _ (c .if1 .taken)) (l .inv))
-
-add-i : tie.Need-add-i Inv-loop μ-loop
-add-i c = search needs
-
-loop-less : tie.Need-loop-less Inv-loop μ-loop
-loop-less c = search needs
 
 loop-again : tie.Need-loop-again Inv-loop μ-loop
 loop-again c =
@@ -53,11 +38,11 @@ are-day-images-spec =
     Inv-loop
     μ-loop
     loop-holds
-    mul-is-day-image
-    array-copy-out-is-day-image
-    is-day-image-requires
+    (λ c. search needs)
+    (λ c. search needs)
+    (λ c κs. search needs)
     returns
-    add-i
-    loop-less
+    (λ c. search needs)
+    (λ c. search needs)
     loop-again
     returns-2)

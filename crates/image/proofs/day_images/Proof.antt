@@ -16,27 +16,6 @@ abbrev μ-loop : tie.MeasureT-loop
 loop-holds : tie.Need-loop-holds Inv-loop μ-loop
 loop-holds c = begins dayImage 400 _ (record { state = 0; wh = 0; cost = 0 }) (search needs)
 
-mul-d : tie.Need-mul-d Inv-loop μ-loop
-mul-d c = search needs
-
-array-copy-out-d : tie.Need-array-copy-out-d Inv-loop μ-loop
-array-copy-out-d c = search needs
-
-usage-image-requires : tie.Need-usage-image-requires Inv-loop μ-loop
-usage-image-requires c κs = search needs
-
-mul-images : tie.Need-mul-images Inv-loop μ-loop
-mul-images c = search needs
-
-array-set-from-images : tie.Need-array-set-from-images Inv-loop μ-loop
-array-set-from-images c = search needs
-
-add-i : tie.Need-add-i Inv-loop μ-loop
-add-i c = search needs
-
-loop-less : tie.Need-loop-less Inv-loop μ-loop
-loop-less c = search needs
-
 loop-again : tie.Need-loop-again Inv-loop μ-loop
 loop-again c =
     let l = c .before .before .before .loop in
@@ -52,12 +31,12 @@ day-images-spec =
     Inv-loop
     μ-loop
     loop-holds
-    mul-d
-    array-copy-out-d
-    usage-image-requires
-    mul-images
-    array-set-from-images
-    add-i
-    loop-less
+    (λ c. search needs)
+    (λ c. search needs)
+    (λ c κs. search needs)
+    (λ c. search needs)
+    (λ c. search needs)
+    (λ c. search needs)
+    (λ c. search needs)
     loop-again
     returns)

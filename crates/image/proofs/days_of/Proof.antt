@@ -19,27 +19,6 @@ abbrev μ-loop : tie.MeasureT-loop
 loop-holds : tie.Need-loop-holds Inv-loop μ-loop
 loop-holds c = begins dayOf 400 _ blankDay (search needs)
 
-mul-usage-of : tie.Need-mul-usage-of Inv-loop μ-loop
-mul-usage-of c = search needs
-
-array-copy-out-usage-of : tie.Need-array-copy-out-usage-of Inv-loop μ-loop
-array-copy-out-usage-of c = search needs
-
-usage-of-requires : tie.Need-usage-of-requires Inv-loop μ-loop
-usage-of-requires c κs = search needs
-
-mul-days : tie.Need-mul-days Inv-loop μ-loop
-mul-days c = search needs
-
-array-set-from-days : tie.Need-array-set-from-days Inv-loop μ-loop
-array-set-from-days c = search needs
-
-add-i : tie.Need-add-i Inv-loop μ-loop
-add-i c = search needs
-
-loop-less : tie.Need-loop-less Inv-loop μ-loop
-loop-less c = search needs
-
 loop-again : tie.Need-loop-again Inv-loop μ-loop
 loop-again c =
     let l = c .before .before .before .loop in
@@ -55,12 +34,12 @@ days-of-spec =
     Inv-loop
     μ-loop
     loop-holds
-    mul-usage-of
-    array-copy-out-usage-of
-    usage-of-requires
-    mul-days
-    array-set-from-days
-    add-i
-    loop-less
+    (λ c. search needs)
+    (λ c. search needs)
+    (λ c κs. search needs)
+    (λ c. search needs)
+    (λ c. search needs)
+    (λ c. search needs)
+    (λ c. search needs)
     loop-again
     returns)

@@ -3,15 +3,6 @@ use Rattle.image.specs.Image.{imageOf}
 use Rattle.image.proofs.image_of.Statement.{statement}
 use Rattle.image.proofs.image_of.Tie as tie
 
-totals-image-requires : tie.Need-totals-image-requires
-totals-image-requires c κs = search needs
-
-day-images-requires : tie.Need-day-images-requires
-day-images-requires c κs = search needs
-
-payment-images-requires : tie.Need-payment-images-requires
-payment-images-requires c κs = search needs
-
 returns : tie.Need-returns
 unfolding imageOf
 returns c =
@@ -20,4 +11,4 @@ returns c =
     λ k. record { totals = s .totals-image .ensures k; terms = a .terms; days = c .before .day-images .ensures k; marks = a .marks; warned = a .warned; payments = c .payment-images .ensures k; spare = 0; charges = a .charges }
 
 pub image-of-spec : {M : Type 1} → statement M
-image-of-spec = tie.close (tie.spec totals-image-requires day-images-requires payment-images-requires returns)
+image-of-spec = tie.close (tie.spec (λ c κs. search needs) (λ c κs. search needs) (λ c κs. search needs) returns)

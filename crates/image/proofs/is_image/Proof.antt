@@ -13,17 +13,11 @@ returns-2 : tie.Need-returns-2
 unfolding isImage
 returns-2 c = simp (le-leb _ _ (c .before .before .if1 .left), ne-eqb _ _ (c .if2 .taken))
 
-are-day-images-requires : tie.Need-are-day-images-requires
-are-day-images-requires c κs = search needs
-
 returns-3 : tie.Need-returns-3
 unfolding isImage
 returns-3 c =
     let z = c .before .before .before in
     simp (le-leb _ _ (z .before .before .if1 .left), eq-eqb _ _ (z .if2 .left), sym (c .before .are-day-images .ensures) ∙ not-true _ (c .if3 .taken))
-
-are-payment-images-requires : tie.Need-are-payment-images-requires
-are-payment-images-requires c κs = search needs
 
 returns-4 : tie.Need-returns-4
 unfolding isImage
@@ -35,4 +29,4 @@ returns-4 c =
 
 pub is-image-spec : {M : Type 1} → statement M
 is-image-spec =
-    tie.close (tie.spec returns returns-2 are-day-images-requires returns-3 are-payment-images-requires returns-4)
+    tie.close (tie.spec returns returns-2 (λ c κs. search needs) returns-3 (λ c κs. search needs) returns-4)

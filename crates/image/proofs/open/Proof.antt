@@ -5,12 +5,6 @@ use Rattle.image.specs.Image.{imageOf, openedOf}
 use Rattle.image.proofs.open.Statement.{statement}
 use Rattle.image.proofs.open.Tie as tie
 
-open-requires : tie.Need-open-requires
-open-requires c κs = search needs
-
-image-of-requires : tie.Need-image-of-requires
-image-of-requires c κs = search needs
-
 returns : tie.Need-returns
 unfolding openedOf
 returns c =
@@ -18,4 +12,4 @@ returns c =
     λ k. record { image = (c .image-of .ensures ∙ ap (λ (x : Opened). imageOf (x .account)) o) k; code = o k .code }
 
 pub open-spec : {M : Type 1} → statement M
-open-spec = tie.close (tie.spec open-requires image-of-requires returns)
+open-spec = tie.close (tie.spec (λ c κs. search needs) (λ c κs. search needs) returns)

@@ -16,27 +16,6 @@ abbrev μ-loop : tie.MeasureT-loop
 loop-holds : tie.Need-loop-holds Inv-loop μ-loop
 loop-holds c = begins paymentImage 128 _ (record { day = 0; amount = 0; part = 0; reversed = 0 }) (search needs)
 
-mul-payment-image : tie.Need-mul-payment-image Inv-loop μ-loop
-mul-payment-image c = search needs
-
-array-copy-out-payment-image : tie.Need-array-copy-out-payment-image Inv-loop μ-loop
-array-copy-out-payment-image c = search needs
-
-payment-image-requires : tie.Need-payment-image-requires Inv-loop μ-loop
-payment-image-requires c κs = search needs
-
-mul-images : tie.Need-mul-images Inv-loop μ-loop
-mul-images c = search needs
-
-array-set-from-images : tie.Need-array-set-from-images Inv-loop μ-loop
-array-set-from-images c = search needs
-
-add-i : tie.Need-add-i Inv-loop μ-loop
-add-i c = search needs
-
-loop-less : tie.Need-loop-less Inv-loop μ-loop
-loop-less c = search needs
-
 loop-again : tie.Need-loop-again Inv-loop μ-loop
 loop-again c =
     let l = c .before .before .before .loop in
@@ -52,12 +31,12 @@ payment-images-spec =
     Inv-loop
     μ-loop
     loop-holds
-    mul-payment-image
-    array-copy-out-payment-image
-    payment-image-requires
-    mul-images
-    array-set-from-images
-    add-i
-    loop-less
+    (λ c. search needs)
+    (λ c. search needs)
+    (λ c κs. search needs)
+    (λ c. search needs)
+    (λ c. search needs)
+    (λ c. search needs)
+    (λ c. search needs)
     loop-again
     returns)

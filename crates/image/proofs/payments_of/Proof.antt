@@ -17,27 +17,6 @@ abbrev μ-loop : tie.MeasureT-loop
 loop-holds : tie.Need-loop-holds Inv-loop μ-loop
 loop-holds c = begins paymentOf 128 _ noPayment (search needs)
 
-mul-payment-of : tie.Need-mul-payment-of Inv-loop μ-loop
-mul-payment-of c = search needs
-
-array-copy-out-payment-of : tie.Need-array-copy-out-payment-of Inv-loop μ-loop
-array-copy-out-payment-of c = search needs
-
-payment-of-requires : tie.Need-payment-of-requires Inv-loop μ-loop
-payment-of-requires c κs = search needs
-
-mul-payments : tie.Need-mul-payments Inv-loop μ-loop
-mul-payments c = search needs
-
-array-set-from-payments : tie.Need-array-set-from-payments Inv-loop μ-loop
-array-set-from-payments c = search needs
-
-add-i : tie.Need-add-i Inv-loop μ-loop
-add-i c = search needs
-
-loop-less : tie.Need-loop-less Inv-loop μ-loop
-loop-less c = search needs
-
 loop-again : tie.Need-loop-again Inv-loop μ-loop
 loop-again c =
     let l = c .before .before .before .loop in
@@ -53,12 +32,12 @@ payments-of-spec =
     Inv-loop
     μ-loop
     loop-holds
-    mul-payment-of
-    array-copy-out-payment-of
-    payment-of-requires
-    mul-payments
-    array-set-from-payments
-    add-i
-    loop-less
+    (λ c. search needs)
+    (λ c. search needs)
+    (λ c κs. search needs)
+    (λ c. search needs)
+    (λ c. search needs)
+    (λ c. search needs)
+    (λ c. search needs)
     loop-again
     returns)

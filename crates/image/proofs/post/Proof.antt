@@ -7,15 +7,6 @@ use Rattle.image.specs.Image.{imageAfter, postedOf}
 use Rattle.image.proofs.post.Statement.{statement}
 use Rattle.image.proofs.post.Tie as tie
 
-account-of-requires : tie.Need-account-of-requires
-account-of-requires c κs = search needs
-
-step-requires : tie.Need-step-requires
-step-requires c κs = search needs
-
-image-after-requires : tie.Need-image-after-requires
-image-after-requires c κs = search needs
-
 returns : tie.Need-returns
 unfolding postedOf
 returns c =
@@ -25,4 +16,4 @@ returns c =
     λ k. record { image = (c .image-after .ensures ∙ ap (λ (x : Posted). imageAfter (a .i) (x .account)) p) k; code = p k .code; value = p k .value }
 
 pub post-spec : {M : Type 1} → statement M
-post-spec = tie.close (tie.spec account-of-requires step-requires image-after-requires returns)
+post-spec = tie.close (tie.spec (λ c κs. search needs) (λ c κs. search needs) (λ c κs. search needs) returns)

@@ -9,30 +9,6 @@ use Rattle.image.specs.Image.{totalsOf, readingsOf}
 use Rattle.image.proofs.readings.Statement.{statement}
 use Rattle.image.proofs.readings.Tie as tie
 
-totals-of-requires : tie.Need-totals-of-requires
-totals-of-requires c κs = search needs
-
-balance-requires : tie.Need-balance-requires
-balance-requires c κs = search needs
-
-settled-requires : tie.Need-settled-requires
-settled-requires c κs = search needs
-
-plan-requires : tie.Need-plan-requires
-plan-requires c κs = search needs
-
-estimates-requires : tie.Need-estimates-requires
-estimates-requires c κs = search needs
-
-service-requires : tie.Need-service-requires
-service-requires c κs = search needs
-
-flag-requires : tie.Need-flag-requires
-flag-requires c κs = search needs
-
-cast-t10 : tie.Need-cast-t10
-cast-t10 c = search needs
-
 returns : tie.Need-returns
 unfolding readingsOf totalsOf
 returns c =
@@ -53,12 +29,12 @@ pub readings-spec : {M : Type 1} → statement M
 readings-spec =
     tie.close
     (tie.spec
-    totals-of-requires
-    balance-requires
-    settled-requires
-    plan-requires
-    estimates-requires
-    service-requires
-    flag-requires
-    cast-t10
+    (λ c κs. search needs)
+    (λ c κs. search needs)
+    (λ c κs. search needs)
+    (λ c κs. search needs)
+    (λ c κs. search needs)
+    (λ c κs. search needs)
+    (λ c κs. search needs)
+    (λ c. search needs)
     returns)

@@ -6,15 +6,9 @@ use Rattle.image.specs.Image.{summaryIn}
 use Rattle.image.proofs.summary.Statement.{statement}
 use Rattle.image.proofs.summary.Tie as tie
 
-account-of-requires : tie.Need-account-of-requires
-account-of-requires c κs = search needs
-
-summary-requires : tie.Need-summary-requires
-summary-requires c κs = search needs
-
 returns : tie.Need-returns
 unfolding summaryIn
 returns c = c .summary .ensures .account ∙ ap (λ (x : Account). summaryOf x (c .before .before .args .m)) (c .before .account-of .ensures)
 
 pub summary-spec : {M : Type 1} → statement M
-summary-spec = tie.close (tie.spec account-of-requires summary-requires returns)
+summary-spec = tie.close (tie.spec (λ c κs. search needs) (λ c κs. search needs) returns)

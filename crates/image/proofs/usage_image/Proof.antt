@@ -2,15 +2,6 @@ use borrow.Author.Needs.{needs}
 use Rattle.image.proofs.usage_image.Statement.{statement}
 use Rattle.image.proofs.usage_image.Tie as tie
 
-enum-told : tie.Need-enum-told
-enum-told c = search needs
-
-enum-known-u : tie.Need-enum-known-u
-enum-known-u c = search needs
-
-enum-known-u-2 : tie.Need-enum-known-u-2
-enum-known-u-2 c = search needs
-
 returns : tie.Need-returns
 returns c = rw (c .enum-told .given .1)
 
@@ -21,4 +12,4 @@ returns-3 : tie.Need-returns-3
 returns-3 c = rw (c .before .u2 .given .1)
 
 pub usage-image-spec : {M : Type 1} → statement M
-usage-image-spec = tie.close (tie.spec enum-told enum-known-u enum-known-u-2 returns returns-2 returns-3)
+usage-image-spec = tie.close (tie.spec (λ c. search needs) (λ c. search needs) (λ c. search needs) returns returns-2 returns-3)

@@ -5,11 +5,5 @@ use borrow.Author.Needs.{needs}
 use Rattle.moves.proofs.accept.Statement.{statement}
 use Rattle.moves.proofs.accept.Tie as tie
 
-add-s : tie.Need-add-s
-add-s c = search needs
-
-returns : tie.Need-returns
-returns c = refl
-
 pub accept-spec : {M : Type 1} → statement M
-accept-spec = tie.close (tie.spec add-s returns)
+accept-spec = tie.close (tie.spec (λ c. search needs) (λ c. refl))

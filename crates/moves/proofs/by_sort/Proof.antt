@@ -103,9 +103,6 @@ returns-11 : tie.Need-returns-11
 unfolding bySort
 returns-11 c = c .connect .ensures ∙ sym (of-sort _ _ _ _ _ _ (c .before .match .keys11))
 
-refuse-requires : tie.Need-refuse-requires
-refuse-requires c κs = search needs
-
 returns-12 : tie.Need-returns-12
 returns-12 c = absurd (no-other _ (known (c .before .before) .limits) (other (c .before)))
 
@@ -135,5 +132,5 @@ by-sort-spec =
     returns-10
     connect-requires
     returns-11
-    refuse-requires
+    (λ c κs. search needs)
     returns-12)

@@ -13,9 +13,6 @@ use Rattle.moves.specs.declared.Totals.{Totals}
 use Rattle.moves.proofs.is_account.Statement.{statement}
 use Rattle.moves.proofs.is_account.Tie as tie
 
-check-requires : tie.Need-check-requires
-check-requires c κs = search needs
-
 returns : tie.Need-returns
 unfolding isAccount
 returns c = simp (sym (c .before .check .ensures), ne-eqb _ _ (c .if1 .taken))
@@ -52,4 +49,4 @@ returns-6 c =
 
 pub is-account-spec : {M : Type 1} → statement M
 is-account-spec =
-    tie.close (tie.spec check-requires returns returns-2 returns-3 returns-4 returns-5 returns-6)
+    tie.close (tie.spec (λ c κs. search needs) returns returns-2 returns-3 returns-4 returns-5 returns-6)

@@ -11,21 +11,6 @@ use Rattle.moves.proofs.Arms.{Sound, refused-early, goes-on, sound}
 use Rattle.moves.proofs.move_of.Statement.{statement}
 use Rattle.moves.proofs.move_of.Tie as tie
 
-cast-at : tie.Need-cast-at
-cast-at c = search needs
-
-element-copy-out-t15 : tie.Need-element-copy-out-t15
-element-copy-out-t15 c = search needs
-
-element-copy-out-t18 : tie.Need-element-copy-out-t18
-element-copy-out-t18 c = search needs
-
-early-requires : tie.Need-early-requires
-early-requires c κs = search needs
-
-refuse-requires : tie.Need-refuse-requires
-refuse-requires c κs = search needs
-
 -- the move's places are there
 there : (c : tie.Start) → let a = c .args in let m = cellsBefore (a .s) (a .payment) (a .day) (now (a .charges)) (now (a .warned)) (a .e) in Sound m (moveOf (a .t) m (now (a .charges)) (now (a .marks)) (now (a .warned)) (a .e))
 unfolding cellsBefore
@@ -42,9 +27,6 @@ returns c =
     let a = s .args in
     is-move s _ (c .refuse .ensures ∙ ap (refusing (cellsBefore (a .s) (a .payment) (a .day) (now (a .charges)) (now (a .warned)) (a .e))) (c .before .before .early .ensures) ∙ sym (refused-early _ _ _ _ _ _ (λ z. c .before .if1 .taken (c .before .before .early .ensures ∙ z))))
 
-by-sort-requires : tie.Need-by-sort-requires
-by-sort-requires c κs = search needs
-
 returns-2 : tie.Need-returns-2
 unfolding cellsBefore
 returns-2 c =
@@ -54,11 +36,11 @@ pub move-of-spec : {M : Type 1} → statement M
 move-of-spec =
     tie.close
     (tie.spec
-    cast-at
-    element-copy-out-t15
-    element-copy-out-t18
-    early-requires
-    refuse-requires
+    (λ c. search needs)
+    (λ c. search needs)
+    (λ c. search needs)
+    (λ c κs. search needs)
+    (λ c κs. search needs)
     returns
-    by-sort-requires
+    (λ c κs. search needs)
     returns-2)

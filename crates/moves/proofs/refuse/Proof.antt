@@ -4,8 +4,5 @@ use mathlib.Core.Path.{refl}
 use Rattle.moves.proofs.refuse.Statement.{statement}
 use Rattle.moves.proofs.refuse.Tie as tie
 
-returns : tie.Need-returns
-returns c = refl
-
 pub refuse-spec : {M : Type 1} → statement M
-refuse-spec = tie.close (tie.spec returns)
+refuse-spec = tie.close (tie.spec (λ c. refl))

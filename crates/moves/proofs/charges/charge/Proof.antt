@@ -20,9 +20,6 @@ month c = rw (c .month-of .ensures) (month-on _ _ _ (known (c .before .before)))
 place : (c : tie.After-month-of) → 5 * c .month-of .result + (c .before .before .args .e .kind - 1) < 75
 place c = let f = fields (c .before .before) in omega (arith, month c)
 
-month-of-requires : tie.Need-month-of-requires
-month-of-requires c κs = search needs
-
 mul-place : tie.Need-mul-place
 mul-place c = omega (arith, month c)
 
@@ -32,30 +29,12 @@ sub-place c = fields (c .before .before .before) .kind .least
 add-place : tie.Need-add-place
 add-place c = omega (arith, place (c .before))
 
-cast-i : tie.Need-cast-i
-cast-i c = search needs
-
-mul-sum : tie.Need-mul-sum
-mul-sum c = search needs
-
 element-copy-out-sum : tie.Need-element-copy-out-sum
 element-copy-out-sum c = omega (arith, place (c .before))
-
-refuse-requires : tie.Need-refuse-requires
-refuse-requires c κs = search needs
 
 returns : tie.Need-returns
 unfolding chargeOf
 returns c = rw (← c .before .before .before .before .month-of .ensures, lt-ltb _ _ (c .before .if1 .taken)) (c .refuse .ensures)
-
-cast-m : tie.Need-cast-m
-cast-m c = search needs
-
-add-m : tie.Need-add-m
-add-m c = search needs
-
-cast-n : tie.Need-cast-n
-cast-n c = search needs
 
 add-n : tie.Need-add-n
 add-n c = let k = known (c .before .before .before .before .before .before .before .before .before) in omega arith
@@ -71,18 +50,18 @@ pub charge-spec : {M : Type 1} → statement M
 charge-spec =
     tie.close
     (tie.spec
-    month-of-requires
+    (λ c κs. search needs)
     mul-place
     sub-place
     add-place
-    cast-i
-    mul-sum
+    (λ c. search needs)
+    (λ c. search needs)
     element-copy-out-sum
-    refuse-requires
+    (λ c κs. search needs)
     returns
-    cast-m
-    add-m
-    cast-n
+    (λ c. search needs)
+    (λ c. search needs)
+    (λ c. search needs)
     add-n
     accept-requires
     returns-2)

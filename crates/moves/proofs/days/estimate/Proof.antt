@@ -38,26 +38,14 @@ taken (Metered wh cost) x y h = refl
 cost : (c : tie.After-cost) → c .cost .result ≤ 9999899
 cost c = let s = c .before .before .before .before .before .before in rw (c .cost .ensures) (cost-on _ _ _ (known s) (inl (s .pre .1)))
 
-refuse-requires : tie.Need-refuse-requires
-refuse-requires c κs = search needs
-
 returns : tie.Need-returns
 unfolding estimateOf
 returns c = rw (le-leb _ _ (c .before .if1 .taken)) (c .refuse .ensures)
-
-enum-told : tie.Need-enum-told
-enum-told c = search needs
-
-refuse-requires-2 : tie.Need-refuse-requires-2
-refuse-requires-2 c κs = search needs
 
 returns-2 : tie.Need-returns-2
 returns-2 c = let s = c .before .before .before .before .before in
     let u = s .args .m .day .usage in
     c .refuse2 .ensures ∙ sym (state s u (lt-leb _ _ (c .before .before .before .if1 .left)) refl ∙ taken u (estimatedOf (s .args .t) (s .args .m) (s .args .e)) (refusing (s .args .m) 8) (c .before .match .keys2))
-
-cost-requires : tie.Need-cost-requires
-cost-requires c κs = search needs
 
 cast-t10 : tie.Need-cast-t10
 cast-t10 c = omega (arith, cost c)
@@ -79,12 +67,12 @@ pub estimate-spec : {M : Type 1} → statement M
 estimate-spec =
     tie.close
     (tie.spec
-    refuse-requires
+    (λ c κs. search needs)
     returns
-    enum-told
-    refuse-requires-2
+    (λ c. search needs)
+    (λ c κs. search needs)
     returns-2
-    cost-requires
+    (λ c κs. search needs)
     cast-t10
     add-n
     add-n-2

@@ -33,30 +33,12 @@ metered c = let s = c .before .before .before .before in
 cost : (c : tie.After-cost) → c .cost .result ≤ 9999899
 cost c = let s = c .before .before .before .before .before in rw (c .cost .ensures) (cost-on _ _ _ (known s) (inr (s .pre .1)))
 
-refuse-requires : tie.Need-refuse-requires
-refuse-requires c κs = search needs
-
 returns : tie.Need-returns
 unfolding readOf
 returns c = rw (le-leb _ _ (c .before .if1 .taken)) (c .refuse .ensures)
 
-enum-told : tie.Need-enum-told
-enum-told c = search needs
-
-enum-known-u : tie.Need-enum-known-u
-enum-known-u c = search needs
-
-enum-told-2 : tie.Need-enum-told-2
-enum-told-2 c = search needs
-
-refuse-requires-2 : tie.Need-refuse-requires-2
-refuse-requires-2 c κs = search needs
-
 returns-2 : tie.Need-returns-2
 returns-2 c = c .refuse2 .ensures ∙ sym (state (c .before .before .before .before .before .before) _ (lt-leb _ _ (c .before .before .before .before .if1 .left)) (c .before .enum-told2 .given .1))
-
-cost-requires : tie.Need-cost-requires
-cost-requires c κs = search needs
 
 cast-t13 : tie.Need-cast-t13
 cast-t13 c = omega (arith, cost c)
@@ -66,9 +48,6 @@ add-n c = let k = known (c .before .before .before .before .before .before .befo
 
 add-n-2 : tie.Need-add-n-2
 add-n-2 c = let k = known (c .before .before .before .before .before .before .before .before .before) in omega (arith, cost (c .before .before .before .before))
-
-less-requires : tie.Need-less-requires
-less-requires c κs = search needs
 
 accept-requires : tie.Need-accept-requires
 accept-requires c κs = known (c .before .before .before .before .before .before .before .before .before .before) .room
@@ -81,17 +60,17 @@ pub read-spec : {M : Type 1} → statement M
 read-spec =
     tie.close
     (tie.spec
-    refuse-requires
+    (λ c κs. search needs)
     returns
-    enum-told
-    enum-known-u
-    enum-told-2
-    refuse-requires-2
+    (λ c. search needs)
+    (λ c. search needs)
+    (λ c. search needs)
+    (λ c κs. search needs)
     returns-2
-    cost-requires
+    (λ c κs. search needs)
     cast-t13
     add-n
     add-n-2
-    less-requires
+    (λ c κs. search needs)
     accept-requires
     returns-3)

@@ -15,9 +15,6 @@ use Rattle.moves.proofs.Early.{accepts}
 use Rattle.moves.proofs.guard.early.Statement.{statement}
 use Rattle.moves.proofs.guard.early.Tie as tie
 
-is-account-requires : tie.Need-is-account-requires
-is-account-requires c κs = search needs
-
 returns : tie.Need-returns
 unfolding earlyCode
 returns c = simp (sym (c .before .is-account .ensures) ∙ not-true _ (c .if1 .taken))
@@ -32,9 +29,6 @@ returns-2 c = simp (is-one (c .before .before .before), lt-ltb _ _ (c .if2 .take
 returns-3 : tie.Need-returns-3
 unfolding earlyCode
 returns-3 c = simp (is-one (c .before .before .before .before .before), lt-ltb _ _ (c .if3 .taken), or-true)
-
-check-requires : tie.Need-check-requires
-check-requires c κs = search needs
 
 -- what is left to test of an account's event on one of its days
 on-a-day : (t : Terms) (s : Totals) (e : Event) → isAccount t s ≡ true → s .last ≤ e .day → e .day ≤ 399 → earlyCode t s e ≡ cond (inLimits e) (cond (leb 4096 (s .events)) 4 0) 3
@@ -74,11 +68,11 @@ pub early-spec : {M : Type 1} → statement M
 early-spec =
     tie.close
     (tie.spec
-    is-account-requires
+    (λ c κs. search needs)
     returns
     returns-2
     returns-3
-    check-requires
+    (λ c κs. search needs)
     returns-4
     returns-5
     returns-6)

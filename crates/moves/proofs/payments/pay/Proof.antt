@@ -15,9 +15,6 @@ known c = early _ _ _ (c .pre .0)
 part : (c : tie.After-plan-part) → let e = c .before .before .before .args .e in c .plan-part .result ≤ e .amount
 part c = let s = c .before .before .before in omega (arith, c .plan-part .ensures, mul-le-mul {n₁ = s .args .e .amount} {n₂ = s .args .e .amount} {m₂ = 50} (omega arith) (known s .share))
 
-refuse-requires : tie.Need-refuse-requires
-refuse-requires c κs = search needs
-
 returns : tie.Need-returns
 unfolding payOf
 returns c = rw (le-leb _ _ (c .before .if1 .taken)) (c .refuse .ensures)
@@ -28,23 +25,8 @@ plan-part-requires c κs = known (c .before .before) .share
 sub-n : tie.Need-sub-n
 sub-n c = part c
 
-cast-n : tie.Need-cast-n
-cast-n c = search needs
-
 add-n : tie.Need-add-n
 add-n c = let k = known (c .before .before .before .before) in omega arith
-
-cast-n-2 : tie.Need-cast-n-2
-cast-n-2 c = search needs
-
-sub-n-2 : tie.Need-sub-n-2
-sub-n-2 c = search needs
-
-add-n-2 : tie.Need-add-n-2
-add-n-2 c = search needs
-
-cast-accept : tie.Need-cast-accept
-cast-accept c = search needs
 
 accept-requires : tie.Need-accept-requires
 accept-requires c κs = known (c .before .before .before .before .before) .room
@@ -57,15 +39,15 @@ pub pay-spec : {M : Type 1} → statement M
 pay-spec =
     tie.close
     (tie.spec
-    refuse-requires
+    (λ c κs. search needs)
     returns
     plan-part-requires
     sub-n
-    cast-n
+    (λ c. search needs)
     add-n
-    cast-n-2
-    sub-n-2
-    add-n-2
-    cast-accept
+    (λ c. search needs)
+    (λ c. search needs)
+    (λ c. search needs)
+    (λ c. search needs)
     accept-requires
     returns-2)

@@ -16,14 +16,8 @@ mul-shared c = omega (arith, product c)
 cast-result : tie.Need-cast-result
 cast-result c = omega (arith, product (c .before))
 
-returns : tie.Need-returns
-returns c = search needs
-
 cast-result-2 : tie.Need-cast-result-2
 cast-result-2 c = omega (arith, product (c .before))
 
-returns-2 : tie.Need-returns-2
-returns-2 c = search needs
-
 pub plan-part-spec : {M : Type 1} → statement M
-plan-part-spec = tie.close (tie.spec mul-shared cast-result returns cast-result-2 returns-2)
+plan-part-spec = tie.close (tie.spec mul-shared cast-result (λ c. search needs) cast-result-2 (λ c. search needs))

@@ -6,17 +6,8 @@ use Rattle.moves.proofs.service.allowed.Tie as tie
 returns : tie.Need-returns
 returns c = rw (ne-eqb _ _ (c .before .if1 .taken))
 
-add-if2 : tie.Need-add-if2
-add-if2 c = search needs
-
 returns-2 : tie.Need-returns-2
 returns-2 c = rw (eq-eqb _ _ (c .before .before .before .if1 .left), lt-leb _ _ (c .if2 .taken))
-
-weekday-of-requires : tie.Need-weekday-of-requires
-weekday-of-requires c κs = search needs
-
-weather-near-requires : tie.Need-weather-near-requires
-weather-near-requires c κs = search needs
 
 returns-3 : tie.Need-returns-3
 returns-3 c = rw (eq-eqb _ _ (c .before .before .before .before .before .before .if1 .left), le-leb _ _ (c .before .before .before .if2 .left), ← c .before .weekday-of .ensures) (c .weather-near .ensures)
@@ -24,4 +15,4 @@ returns-3 c = rw (eq-eqb _ _ (c .before .before .before .before .before .before 
 pub allowed-spec : {M : Type 1} → statement M
 allowed-spec =
     tie.close
-    (tie.spec returns add-if2 returns-2 weekday-of-requires weather-near-requires returns-3)
+    (tie.spec returns (λ c. search needs) returns-2 (λ c κs. search needs) (λ c κs. search needs) returns-3)

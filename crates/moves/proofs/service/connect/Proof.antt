@@ -11,21 +11,12 @@ use Rattle.moves.proofs.service.connect.Tie as tie
 known : (c : tie.Start) → Early (c .args .t) (c .args .m .totals) (c .args .e)
 known c = early _ _ _ (c .pre .0)
 
-refuse-requires : tie.Need-refuse-requires
-refuse-requires c κs = search needs
-
 returns : tie.Need-returns
 unfolding connectOf
 returns c = c .refuse .ensures ∙ sym (yes _ _ _ (c .before .if1 .taken))
 
-cast-if2 : tie.Need-cast-if2
-cast-if2 c = search needs
-
 add-if2 : tie.Need-add-if2
 add-if2 c = let k = known (c .before .before .before) in omega arith
-
-refuse-requires-2 : tie.Need-refuse-requires-2
-refuse-requires-2 c κs = search needs
 
 returns-2 : tie.Need-returns-2
 unfolding connectOf
@@ -42,11 +33,11 @@ pub connect-spec : {M : Type 1} → statement M
 connect-spec =
     tie.close
     (tie.spec
-    refuse-requires
+    (λ c κs. search needs)
     returns
-    cast-if2
+    (λ c. search needs)
     add-if2
-    refuse-requires-2
+    (λ c κs. search needs)
     returns-2
     served-requires
     returns-3)

@@ -28,56 +28,23 @@ weekend c = rw (← c .before .weekday-of .ensures, le-leb _ _ (c .if3 .taken))
 on-weekday : (c : tie.Else3) → let s = start (c .before .before .before) .args in barredOn (s .t) (now (s .marks)) (s .e) ≡ barringOn (now (s .marks)) (s .e .day)
 on-weekday c = rw (← c .before .weekday-of .ensures, lt-leb _ _ (c .if3 .left))
 
-refuse-requires : tie.Need-refuse-requires
-refuse-requires c κs = search needs
-
 returns : tie.Need-returns
 unfolding disconnectOf
 returns c = c .refuse .ensures ∙ sym (yes _ _ _ (c .before .if1 .taken))
 
-cast-if2 : tie.Need-cast-if2
-cast-if2 c = search needs
-
 add-if2 : tie.Need-add-if2
 add-if2 c = let k = known (c .before .before .before .before) in omega arith
-
-refuse-requires-2 : tie.Need-refuse-requires-2
-refuse-requires-2 c κs = search needs
 
 returns-2 : tie.Need-returns-2
 unfolding disconnectOf
 returns-2 c = c .refuse2 .ensures ∙ sym (no _ _ _ (c .before .before .before .before .before .if1 .left) ∙ yes _ _ _ (le-leb _ _ (c .before .if2 .taken)))
 
-latest-requires : tie.Need-latest-requires
-latest-requires c κs = search needs
-
-enum-told : tie.Need-enum-told
-enum-told c = search needs
-
-enum-told-2 : tie.Need-enum-told-2
-enum-told-2 c = search needs
-
-refuse-requires-3 : tie.Need-refuse-requires-3
-refuse-requires-3 c κs = search needs
-
 returns-3 : tie.Need-returns-3
 unfolding disconnectOf
 returns-3 c = c .refuse3 .ensures ∙ sym (no _ _ _ (c .before .before .before .before .before .before .before .before .if1 .left) ∙ no _ _ _ (lt-leb _ _ (c .before .before .before .before .if2 .left)) ∙ yes _ _ _ (ap isMissing (sym (c .before .before .before .latest .ensures) ∙ c .before .enum-told2 .given .1)))
 
-weekday-of-requires : tie.Need-weekday-of-requires
-weekday-of-requires c κs = search needs
-
-refuse-requires-4 : tie.Need-refuse-requires-4
-refuse-requires-4 c κs = search needs
-
 returns-4 : tie.Need-returns-4
 returns-4 c = c .refuse4 .ensures ∙ sym (warning (c .before .before .before .before) ∙ yes _ _ _ (weekend (c .before)))
-
-barring-requires : tie.Need-barring-requires
-barring-requires c κs = search needs
-
-refuse-requires-5 : tie.Need-refuse-requires-5
-refuse-requires-5 c κs = search needs
 
 returns-5 : tie.Need-returns-5
 returns-5 c = c .refuse5 .ensures ∙ sym (warning (c .before .before .before .before .before .before) ∙ yes _ _ _ (on-weekday (c .before .before .before) ∙ sym (c .before .before .barring .ensures) ∙ c .before .if4 .taken))
@@ -93,22 +60,22 @@ pub disconnect-spec : {M : Type 1} → statement M
 disconnect-spec =
     tie.close
     (tie.spec
-    refuse-requires
+    (λ c κs. search needs)
     returns
-    cast-if2
+    (λ c. search needs)
     add-if2
-    refuse-requires-2
+    (λ c κs. search needs)
     returns-2
-    latest-requires
-    enum-told
-    enum-told-2
-    refuse-requires-3
+    (λ c κs. search needs)
+    (λ c. search needs)
+    (λ c. search needs)
+    (λ c κs. search needs)
     returns-3
-    weekday-of-requires
-    refuse-requires-4
+    (λ c κs. search needs)
+    (λ c κs. search needs)
     returns-4
-    barring-requires
-    refuse-requires-5
+    (λ c κs. search needs)
+    (λ c κs. search needs)
     returns-5
     served-requires
     returns-6)

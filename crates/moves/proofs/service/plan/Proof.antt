@@ -29,22 +29,13 @@ debt c = let s = c .before .before .before .args in below (eqb (s .e .kind) 1) (
 allowed-requires : tie.Need-allowed-requires
 allowed-requires c κs = known (c .before) .credit
 
-refuse-requires : tie.Need-refuse-requires
-refuse-requires c κs = search needs
-
 returns : tie.Need-returns
 unfolding planOf
 returns c = c .refuse .ensures ∙ sym (no _ _ _ (sym (c .before .before .allowed .ensures) ∙ not-true _ (c .before .if1 .taken)))
 
-refuse-requires-2 : tie.Need-refuse-requires-2
-refuse-requires-2 c κs = search needs
-
 returns-2 : tie.Need-returns-2
 unfolding planOf deferredOf
 returns-2 c = c .refuse2 .ensures ∙ sym (yes _ _ _ (sym (c .before .before .before .before .allowed .ensures) ∙ not-false _ (c .before .before .before .if1 .left)) ∙ yes _ _ _ (lt-ltb _ _ (c .before .if2 .taken)))
-
-cast-d : tie.Need-cast-d
-cast-d c = search needs
 
 add-d : tie.Need-add-d
 add-d c = let k = known (c .before .before .before .before .before .before .before) in omega arith
@@ -70,11 +61,11 @@ plan-spec =
     tie.close
     (tie.spec
     allowed-requires
-    refuse-requires
+    (λ c κs. search needs)
     returns
-    refuse-requires-2
+    (λ c κs. search needs)
     returns-2
-    cast-d
+    (λ c. search needs)
     add-d
     sub-d
     add-n
