@@ -46,7 +46,7 @@ MayCut t l e =
     × (warned (e .day) (l .list) ≡ true)
     × (barred t (e .day) (l .list) ≡ false)
 
--- The table, each number with when it applies, in the order in which they are looked at.
+-- The table, each number with when it applies. "Several apply: the lowest number of 1 to 14": its order is the rule.
 unfoldable pub refusals : Terms → Ledger → Event → List Rule
 refusals t l e =
     (2, dayRefused l e)
@@ -64,7 +64,7 @@ refusals t l e =
     ∷ (14, isDisconnect e && barred t (e .day) (l .list))
     ∷ []
 
--- "Several apply: the lowest number of 1 to 14": the first of the table, whose numbers ascend. 0 where none applies.
+-- the number of the first rule that applies; 0 where none does
 unfoldable pub firstOf : List Rule → ℕ
 firstOf [] = 0
 firstOf (r ∷ rs) = cond (r .1) (r .0) (firstOf rs)
