@@ -73,7 +73,7 @@ const BEFORE: [u32; 13] = [0, 0, 31, 59, 90, 120, 151, 181, 212, 243, 273, 304, 
 
 const BEFORE_LEAP: [u32; 13] = [0, 0, 31, 60, 91, 121, 152, 182, 213, 244, 274, 305, 335];
 
-// The days of the year before a month (T-06: by a formula).
+// The days of the year before a month.
 fn days_before(leap: bool, month: u32) -> u32
     requires { ⌜ month ≤ 12 ⌝ }
     ensures { λ r. ⌜ r ≡ daysBefore leap month ⌝ }

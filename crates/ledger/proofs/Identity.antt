@@ -65,7 +65,7 @@ module _ (t : Terms) (l : Entries) (u : ℕ) where
   unfolding usageDay
   estimate-cost-is r = decide (any (estimateOn u) l) (λ e. simp (r, e)) (λ e. simp (r, e))
 
--- The price of a day before the newest event's stays. (T-01: a price counts from its own day on.)
+-- The price of a day before the newest event's stays.
 price-stays : (t : Terms) (x : Entry) (l : Entries) (u : ℕ) → u < x .event .day → priceOn t (x ∷ l) u ≡ priceOn t l u
 unfolding priceOn
 price-stays t x l u h = refl

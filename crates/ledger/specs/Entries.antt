@@ -69,7 +69,7 @@ reversed n l = any (λ (e : Event). isReverse e && eqb (e .number) n) l
 unfoldable pub warned : ℕ → Entries → Bool
 warned x l = any (λ (e : Event). isWarn e && (leb (e .day + 1) x && leb x (e .day + 7))) l
 
--- The price in force on usage day u: the opening price on every day. (T-01 will change this definition.)
+-- The price in force on usage day u: the opening price on every day.
 unfoldable pub priceOn : Terms → Entries → ℕ → ℕ
 priceOn t l u = t .price
 
@@ -114,7 +114,7 @@ estimateCost blank = 0
 estimateCost (estimated wh cost) = cost
 estimateCost (metered wh cost) = 0
 
--- "A mark in L covers days `from` to `to`." (T-10 will change this definition.)
+-- "A mark in L covers days `from` to `to`."
 unfoldable pub covered : ℕ → ℕ → Entries → Bool
 covered kind d l = any (λ (e : Event). isMark e && (eqb (e .kind) kind && (leb (e .from) d && leb d (e .to)))) l
 
@@ -130,7 +130,7 @@ weekday t d = weekdayOf (dateOn (t .opened) d)
 unfoldable pub barred : Terms → ℕ → Entries → Bool
 barred t d l = leb 5 (weekday t d) || (covered 1 d l || (covered 2 d l || covered 3 d l))
 
--- "Business days are Monday to Friday." (T-03 will change this definition.)
+-- "Business days are Monday to Friday."
 unfoldable pub business : Terms → Entries → ℕ → Bool
 business t l d = ltb (weekday t d) 5
 

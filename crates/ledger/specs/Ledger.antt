@@ -23,7 +23,7 @@ pub record Move : Type 0 where
   pub plan : ℕ
   pub on : Bool
 
--- "Plan part = the smaller of R and amount × share / 100 rounded down." (T-07 will change this definition.)
+-- "Plan part = the smaller of R and amount × share / 100 rounded down."
 unfoldable pub planPart : Terms → Ledger → ℕ → ℕ
 planPart t l amount = min (l .plan) (amount * t .share / 100)
 
