@@ -3,7 +3,7 @@ use Prim.Native.Nat.{ℕ, suc, _+_, _*_, _/_}
 use mathlib.Core.Bool.{Bool, true, false, cond, not, _&&_}
 use mathlib.Core.List.{List, [], _∷_}
 use lib.Dec.{eqb}
-use Rattle.calendar.specs.Calendar.{dateOn, monthFrom, total}
+use Rattle.calendar.specs.Calendar.{dateOn, monthFrom, total, dayCount}
 use Rattle.calendar.specs.Days.{anyDay}
 use Rattle.terms.specs.declared.Terms.{Terms}
 use Rattle.ledger.specs.declared.Counted.{Counted}
@@ -21,7 +21,7 @@ inMonth t m d = eqb (monthOf t d) m
 
 -- "a month holding none of days 0 to 399 is refused with 3"
 unfoldable pub hasDays : Terms → ℕ → Bool
-hasDays t m = anyDay (inMonth t m) 400
+hasDays t m = anyDay (inMonth t m) dayCount
 
 -- The sum of f over month m's payments, "by the payment's day": those for which p of their being reversed holds. A payment's number is
 -- the count of those before it.
@@ -40,7 +40,7 @@ countedIn t m p l = record { count = paymentsIn t m p (λ (x : Entry). 1) l; sum
 
 -- The sum of f over month m's usage days: "by usage day".
 unfoldable pub usageIn : Terms → ℕ → (UsageDay → ℕ) → Entries → ℕ
-usageIn t m f l = total (λ (u : ℕ). cond (inMonth t m u) (f (usageDay t l u)) 0) 400
+usageIn t m f l = total (λ (u : ℕ). cond (inMonth t m u) (f (usageDay t l u)) 0) dayCount
 
 abbrev pub meteredWh : UsageDay → ℕ
 meteredWh blank = 0

@@ -39,7 +39,7 @@ fn set_range(marks: &mut [u8; 400], bit: u8, from: u32, to: u32)
 pub fn set(marks: &mut [u8; 400], kind: u32, from: u32, to: u32)
     ensures { λ _. ⌜ now (marks .exit) ≡ marked (now (marks .entry)) kind from to ⌝ }
 {
-    if to > 399 {
+    if to > calendar::FINAL_DAY {
         return;
     }
     if to < from {
@@ -52,7 +52,7 @@ pub fn set(marks: &mut [u8; 400], kind: u32, from: u32, to: u32)
 pub fn barring(marks: &[u8; 400], day: u32) -> bool
     ensures { λ r. ⌜ r ≡ barringOn (now (marks .entry)) day ⌝ }
 {
-    if day > 399 {
+    if day > calendar::FINAL_DAY {
         return false;
     }
     let i = day as usize;
@@ -63,7 +63,7 @@ pub fn barring(marks: &[u8; 400], day: u32) -> bool
 pub fn latest(warned: &[u8; 400], day: u32) -> Found
     ensures { λ r. ⌜ r ≡ latestWarning (now (warned .entry)) day ⌝ }
 {
-    if day > 399 {
+    if day > calendar::FINAL_DAY {
         return Found::Missing;
     }
     let mut d = day;
@@ -112,7 +112,7 @@ fn business_left(weekday: u32, left: u32) -> u32
 pub fn weather_near(marks: &[u8; 400], weekday: u32, day: u32) -> bool
     ensures { λ r. ⌜ r ≡ weatherNear (now (marks .entry)) weekday day ⌝ }
 {
-    if day > 399 {
+    if day > calendar::FINAL_DAY {
         return false;
     }
     let mut d = day;

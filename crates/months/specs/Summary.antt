@@ -6,7 +6,7 @@ use mathlib.Core.List.{List, [], _∷_}
 use lib.ListN.{getD}
 use lib.Dec.{leb, eqb}
 use Rattle.calendar.specs.declared.Date.{Date}
-use Rattle.calendar.specs.Calendar.{dateOn, monthFrom, isDay, total}
+use Rattle.calendar.specs.Calendar.{dateOn, monthFrom, isDay, total, dayCount}
 use Rattle.calendar.specs.Days.{anyDay}
 use Rattle.terms.specs.declared.Terms.{Terms}
 use Rattle.ledger.specs.declared.Event.{Event}
@@ -104,12 +104,12 @@ figuresBy kept reversed metered estimated charges =
 -- over the days that have q
 unfoldable pub summaryBy : (ℕ → Bool) → Account → ℕ → Summary
 summaryBy q a m =
-    cond (anyDay q 400)
+    cond (anyDay q dayCount)
     (figuresBy
     (countedBy q not (a .payments) (a .totals .count))
     (countedBy q isReversed (a .payments) (a .totals .count))
-    (meteredBy q (a .days) 400)
-    (estimatedBy q (a .days) 400)
+    (meteredBy q (a .days) dayCount)
+    (estimatedBy q (a .days) dayCount)
     (chargesOf (a .charges) m))
     (noSummary 3)
 
