@@ -80,15 +80,15 @@ abbrev pub chargesOf : List ℕ → ℕ → List ℕ
 chargesOf l m = getD l (5 * m) 0 ∷ getD l (5 * m + 1) 0 ∷ getD l (5 * m + 2) 0 ∷ getD l (5 * m + 3) 0 ∷ getD l (5 * m + 4) 0 ∷ []
 
 -- No list of charges takes a month's sum past 2 ^ 40: a record that has one, of a kind that is in the average, is no account of this software's.
-abbrev pub most : ℕ
-most = 1099511627776
+abbrev pub maxCharges : ℕ
+maxCharges = 1099511627776
 
 -- ---- the summary
 
 -- the figures of the payments, the usage and the charges; kinds 1 and 2 are in the average
 abbrev pub figuresBy : Counted → Counted → Used → Used → List ℕ → Summary
 figuresBy kept reversed metered estimated charges =
-    cond (leb (getD charges 0 0) most && leb (getD charges 1 0) most)
+    cond (leb (getD charges 0 0) maxCharges && leb (getD charges 1 0) maxCharges)
     (record {
       code = 0;
       kept = kept;

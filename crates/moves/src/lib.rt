@@ -69,7 +69,7 @@ pub struct Move {
     pub to: u32,
 }
 
-const MOST: u64 = 1152921504606846976;
+pub const MOST: u64 = 1152921504606846976;
 
 // Whether the terms are within their limits and the totals within any account's reach, so that no sum of a step wraps.
 pub fn is_account(t: Terms, s: Totals) -> bool

@@ -6,8 +6,6 @@ ghost use Prim.Native.Nat.{_≤_};
 ghost use lib.IntN.{pos, _-ℤ_};
 ghost use Rattle.readings.specs.Readings.{IsBalance, IsPlan, IsService, IsSettled, IsEstimates};
 
-const MOST: u64 = 1152921504606846976;
-
 fn signed(up: u64, down: u64) -> i64
     requires { ⌜ (up ≤ 4611686018427387904) × (down ≤ 4611686018427387904) ⌝ }
     ensures { λ r. ⌜ r ≡ pos up -ℤ pos down ⌝ }
@@ -19,10 +17,10 @@ fn signed(up: u64, down: u64) -> i64
 pub fn balance(s: Totals) -> i64
     ensures { λ r. ⌜ IsBalance s r ⌝ }
 {
-    if s.credit > MOST {
+    if s.credit > moves::MOST {
         return 0;
     }
-    if s.debit > MOST {
+    if s.debit > moves::MOST {
         return 0;
     }
     signed(s.credit, s.debit)
@@ -46,16 +44,16 @@ pub fn service(s: Totals) -> bool
 pub fn settled(s: Totals) -> i64
     ensures { λ r. ⌜ IsSettled s r ⌝ }
 {
-    if s.credit > MOST {
+    if s.credit > moves::MOST {
         return 0;
     }
-    if s.debit > MOST {
+    if s.debit > moves::MOST {
         return 0;
     }
-    if s.plan > MOST {
+    if s.plan > moves::MOST {
         return 0;
     }
-    if s.standing > MOST {
+    if s.standing > moves::MOST {
         return 0;
     }
     signed(s.credit + s.standing, s.debit + s.plan)
