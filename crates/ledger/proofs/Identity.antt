@@ -14,7 +14,7 @@ use Rattle.terms.specs.declared.Terms.{Terms}
 use Rattle.terms.specs.Terms.{validTerms}
 use Rattle.ledger.specs.declared.Event.{Event}
 use Rattle.ledger.specs.Event.{isPay, isReverse, isCredit, isCharge, isEstimate, isRead, isPlan, isDisconnect, isConnect}
-use Rattle.ledger.specs.Entries.{costIn, Entry, Entries, any, count, sum, find, lastDay, payments, hasNumber, payment, reversed, priceOn, UsageDay, readOn, estimateOn, whOn, usageDay, isBlank, isMetered, estimateCost}
+use Rattle.ledger.specs.Entries.{costIn, Entry, Entries, any, count, sum, sumOf, amountOf, find, lastDay, payments, hasNumber, payment, reversed, priceOn, UsageDay, readOn, estimateOn, whOn, usageDay, isBlank, isMetered, estimateCost}
 use Rattle.ledger.specs.Sums.{kept, credits, charges, reads, settled, standing}
 use Rattle.ledger.specs.Rules.{Ledger, planAllowed, refusals}
 use Rattle.ledger.specs.Ledger.{opening, Move, planPart, payMove, reverseMove, balanceMove, serviceMove, eventCost, estimateMove, readMove, deferred, planMove, moveOf, moved, accepts, ledgerStep}
@@ -22,7 +22,7 @@ use Rattle.ledger.proofs.Cases.{decide, neither, both, other}
 use Rattle.ledger.proofs.Money.{diff, diff-eq, diff-add, diff-sub, diff-gap, diff-zero, diff-high, by-sign}
 use Rattle.ledger.proofs.Accepted.{Accepted, accepted-by}
 use Rattle.ledger.specs.Invariant.{All, UsedBefore, Invariant}
-use Rattle.ledger.proofs.Weights.{all-map, sum-same, weigh, take-out, one-weighs, given-once}
+use Rattle.ledger.proofs.Weights.{all-map, sum-same, take-out, one-weighs, given-once}
 
 pub invariant-opening : (t : Terms) → t .share ≤ 100 → Invariant t opening
 unfolding kept credits charges reads standing sum reversed any payment find count
@@ -81,7 +81,7 @@ unfolding any count
 none-counts p [] f = refl
 none-counts p (x ∷ l) f = let n = neither (p (x .event)) (any p l) f in simp (n .0) (omega (arith, none-counts p l (n .1)))
 
-count-weighs : (p : Event → Bool) (l : Entries) → weigh (λ x b. p (x .event)) (λ x. 1) l ≡ count p l
+count-weighs : (p : Event → Bool) (l : Entries) → sumOf (λ x b. p (x .event)) (λ x. 1) l ≡ count p l
 unfolding count sum
 count-weighs p [] = refl
 count-weighs p (x ∷ l) = omega (arith, count-weighs p l)
@@ -116,7 +116,7 @@ module _ (t : Terms) (l : Entries) (x : Entry) (past : All (UsedBefore (x .event
 
   -- the estimates that stand, at the old prices
   standing-new : standing t (x ∷ l)
-      ≡ weigh (λ y b. isEstimate (y .event) && not (any (readOn (y .event .usage)) (x ∷ l))) (λ y. costIn t l (y .event)) l
+      ≡ sumOf (λ y b. isEstimate (y .event) && not (any (readOn (y .event .usage)) (x ∷ l))) (λ y. costIn t l (y .event)) l
       + cond (isEstimate (x .event) && not (any (readOn (x .event .usage)) (x ∷ l))) (costIn t l (x .event)) 0
   unfolding standing sum
   standing-new = omega (
@@ -127,7 +127,7 @@ module _ (t : Terms) (l : Entries) (x : Entry) (past : All (UsedBefore (x .event
 
 -- the estimate that a read replaces
 pub replaced : (t : Terms) (l : Entries) (u : ℕ) → count (estimateOn u) l ≤ 1 → any (readOn u) l ≡ false
-    → weigh (λ y b. isEstimate (y .event) && eqb (y .event .usage) u) (λ y. costIn t l (y .event)) l ≡ estimateCost (usageDay t l u)
+    → sumOf (λ y b. isEstimate (y .event) && eqb (y .event .usage) u) (λ y. costIn t l (y .event)) l ≡ estimateCost (usageDay t l u)
 replaced t l u h f =
     one-weighs (λ y b. estimateOn u (y .event)) (λ y. costIn t l (y .event)) (nothing-costs (priceOn t l 0)) l (omega (arith, count-weighs (estimateOn u) l))
     ∙ found-costs (priceOn t l) u l
@@ -186,7 +186,7 @@ module _ (t : Terms) (l : Ledger) (e : Event) (p : ℕ) (s : Invariant t l) (a :
       (λ i. simp (r, i) (omega (arith, simp (r, i) at new))))
     where
       new : standing t (entryOf e p ∷ l .list)
-          ≡ weigh (λ y b. isEstimate (y .event) && not (any (readOn (y .event .usage)) (entryOf e p ∷ l .list))) (λ y. costIn t (l .list) (y .event)) (l .list)
+          ≡ sumOf (λ y b. isEstimate (y .event) && not (any (readOn (y .event .usage)) (entryOf e p ∷ l .list))) (λ y. costIn t (l .list) (y .event)) (l .list)
           + cond (isEstimate e && not (any (readOn (e .usage)) (entryOf e p ∷ l .list))) (costIn t (l .list) e) 0
       new = standing-new t (l .list) (entryOf e p) past-then used-before
 

@@ -33,6 +33,13 @@ unfoldable pub sum : (Entry → Entries → ℕ) → Entries → ℕ
 sum f [] = 0
 sum f (x ∷ l) = sum f l + f x l
 
+-- The sum of f over the entries that p picks.
+abbrev pub sumOf : (Entry → Entries → Bool) → (Entry → ℕ) → Entries → ℕ
+sumOf p f l = sum (λ (x : Entry) (before : Entries). cond (p x before) (f x) 0) l
+
+abbrev pub amountOf : Entry → ℕ
+amountOf x = x .event .amount
+
 -- no entry: what is found where there is none
 abbrev pub noEntry : Entry
 noEntry = record {
@@ -64,6 +71,13 @@ payment n l = find (hasNumber n) l
 -- "reversed if L has a reverse of it"
 unfoldable pub reversed : ℕ → Entries → Bool
 reversed n l = any (λ (e : Event). isReverse e && eqb (e .number) n) l
+
+-- a payment kept, and a payment reversed: its number is the count of those before it
+abbrev pub isKept : Entries → Entry → Entries → Bool
+isKept l x before = isPay (x .event) && not (reversed (payments before) l)
+
+abbrev pub isReversed : Entries → Entry → Entries → Bool
+isReversed l x before = isPay (x .event) && reversed (payments before) l
 
 -- "some accepted warning was issued on a day w with 1 ≤ x − w ≤ 7"
 unfoldable pub warned : ℕ → Entries → Bool
@@ -134,7 +148,10 @@ barred t d l = leb 5 (weekday t d) || (covered 1 d l || (covered 2 d l || covere
 unfoldable pub business : Terms → Entries → ℕ → Bool
 business t l d = ltb (weekday t d) 5
 
+-- how many business days are among days w+1 to x
+abbrev pub businessDays : Terms → Entries → ℕ → ℕ → ℕ
+businessDays t l w x = countDays (λ (d : ℕ). ltb w d && business t l d) (suc x)
+
 -- "some weather day w ≤ x has at most one business day among days w+1 to x"
 unfoldable pub weatherNear : Terms → Entries → ℕ → Bool
-weatherNear t l x =
-    anyDay (λ (w : ℕ). weather l w && leb (countDays (λ (d : ℕ). ltb w d && business t l d) (suc x)) 1) (suc x)
+weatherNear t l x = anyDay (λ (w : ℕ). weather l w && leb (businessDays t l w x) 1) (suc x)

@@ -13,7 +13,7 @@ use Rattle.ledger.specs.declared.Event.{Event}
 use Rattle.ledger.specs.declared.Counted.{Counted}
 use Rattle.ledger.specs.declared.Used.{Used}
 use Rattle.ledger.specs.declared.Summary.{Summary}
-use Rattle.ledger.specs.Months.{isReversed, averageOf, noSummary, ledgerSummary}
+use Rattle.ledger.specs.Months.{averageOf, noSummary, ledgerSummary}
 use Rattle.ledger.specs.Rules.{Ledger}
 use Rattle.account.specs.Record.{blankDay, noPayment, costHeld}
 use Rattle.moves.specs.Moves.{isAccount}
@@ -31,22 +31,28 @@ inMonthOf opened m d = isDay opened d && eqb (monthFrom opened (dateOn opened d)
 
 -- ---- payments
 
--- what f gives of a payment whose day has q, and of whose being reversed p holds
-abbrev pub ofPayment : (ℕ → Bool) → (Bool → Bool) → (Payment → ℕ) → Payment → ℕ
-ofPayment q p f x = cond (q (x .day) && p (x .reversed)) (f x) 0
+abbrev pub heldKept : Payment → Bool
+heldKept x = not (x .reversed)
+
+abbrev pub heldReversed : Payment → Bool
+heldReversed x = x .reversed
+
+-- what f gives of a payment that p picks and whose day has q
+abbrev pub ofPayment : (ℕ → Bool) → (Payment → Bool) → (Payment → ℕ) → Payment → ℕ
+ofPayment q p f x = cond (q (x .day) && p x) (f x) 0
 
 -- its sum over the first n payments
-unfoldable pub paymentsBy : (ℕ → Bool) → (Bool → Bool) → (Payment → ℕ) → List Payment → ℕ → ℕ
+unfoldable pub paymentsBy : (ℕ → Bool) → (Payment → Bool) → (Payment → ℕ) → List Payment → ℕ → ℕ
 paymentsBy q p f l n = total (λ (i : ℕ). ofPayment q p f (getD l i noPayment)) n
 
 abbrev pub one : Payment → ℕ
 one x = 1
 
-abbrev pub amountOf : Payment → ℕ
-amountOf x = x .amount
+abbrev pub heldAmount : Payment → ℕ
+heldAmount x = x .amount
 
-abbrev pub countedBy : (ℕ → Bool) → (Bool → Bool) → List Payment → ℕ → Counted
-countedBy q p l n = record { count = paymentsBy q p one l n; sum = paymentsBy q p amountOf l n }
+abbrev pub countedBy : (ℕ → Bool) → (Payment → Bool) → List Payment → ℕ → Counted
+countedBy q p l n = record { count = paymentsBy q p one l n; sum = paymentsBy q p heldAmount l n }
 
 -- ---- usage days
 
@@ -106,8 +112,8 @@ unfoldable pub summaryBy : (ℕ → Bool) → Account → ℕ → Summary
 summaryBy q a m =
     cond (anyDay q dayCount)
     (figuresBy
-    (countedBy q not (a .payments) (a .totals .count))
-    (countedBy q isReversed (a .payments) (a .totals .count))
+    (countedBy q heldKept (a .payments) (a .totals .count))
+    (countedBy q heldReversed (a .payments) (a .totals .count))
     (meteredBy q (a .days) dayCount)
     (estimatedBy q (a .days) dayCount)
     (chargesOf (a .charges) m))
