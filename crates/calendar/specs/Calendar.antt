@@ -89,9 +89,20 @@ nextAnswer d = cond (reached d) (nextOf d) d
 abbrev pub weekdayAnswer : Date → ℕ
 weekdayAnswer d = cond (reached d) (weekdayOf d) 7
 
--- A day of an account: it opened on a date of 2000 to 2099, "k from 0 to 399".
+-- "k from 0 to 399"
+abbrev pub finalDay : ℕ
+finalDay = 399
+
+abbrev pub dayCount : ℕ
+dayCount = finalDay + 1
+
+-- "Month m, 0 to 14": the months that 400 days can touch
+abbrev pub monthCount : ℕ
+monthCount = 15
+
+-- A day of an account that opened on a date of 2000 to 2099.
 abbrev pub isDay : Date → ℕ → Bool
-isDay opened k = opens opened && leb k 399
+isDay opened k = opens opened && leb k finalDay
 
 abbrev pub dateAnswer : Date → ℕ → Dated
 dateAnswer opened k = cond (isDay opened k) (dated.On (dateOn opened k)) dated.Outside
@@ -100,9 +111,9 @@ dateAnswer opened k = cond (isDay opened k) (dated.On (dateOn opened k)) dated.O
 abbrev pub weekdayOn : Date → ℕ → ℕ
 weekdayOn opened k = cond (isDay opened k) (weekdayOf (dateOn opened k)) 7
 
--- no month: 15
+-- no month: one past the last
 abbrev pub monthOn : Date → ℕ → ℕ
-monthOn opened k = cond (isDay opened k) (monthFrom opened (dateOn opened k)) 15
+monthOn opened k = cond (isDay opened k) (monthFrom opened (dateOn opened k)) monthCount
 
 -- Which of days 0 to 399 a date is.
 abbrev pub DayAnswer : Date → Date → Numbered → Type 0
@@ -112,7 +123,7 @@ DayAnswer opened d numbered.Outside = (k : ℕ) → isDay opened k ≡ true → 
 -- The days of month m among days 0 to 399: from `from` to the day before `to`. Where there is none, both are 0.
 pub record MonthAnswer (opened : Date) (m : ℕ) (r : Days) : Type 0 where
   pub order : r .from ≤ r .to
-  pub limit : r .to ≤ 400
+  pub limit : r .to ≤ dayCount
   pub none : r .from ≡ r .to → r .to ≡ 0
   pub days : (k : ℕ) → isDay opened k ≡ true → (monthFrom opened (dateOn opened k) ≡ m) ↔ ((r .from ≤ k) × (k < r .to))
   pub closed : opens opened ≡ false → r .to ≡ 0

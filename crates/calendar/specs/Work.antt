@@ -3,7 +3,7 @@ use Prim.Native.Nat.{ℕ, _+_, _-_, _≤_, min}
 use mathlib.Core.Path.{_≡_}
 use mathlib.Core.Bool.{Bool, true, cond}
 use lib.Dec.{ltb}
-use Rattle.calendar.specs.Calendar.{leapYear, monthDays, isDate, total, lengthAfter, monthsAfter, daysAfter}
+use Rattle.calendar.specs.Calendar.{leapYear, monthDays, isDate, total, lengthAfter, monthsAfter, daysAfter, dayCount}
 use Rattle.calendar.specs.declared.Date.{Date}
 use Rattle.calendar.specs.declared.Place.{Place}
 
@@ -24,6 +24,6 @@ pub record InYear (y left : ℕ) (r : Date) : Type 0 where
   pub month : r .month ≤ 12
   pub rest : daysBefore (leapYear y) (r .month) + (r .day - 1) ≡ left
 
--- the first of days 0 to 399 that lies in month m or later, or 400
+-- the first of days 0 to 399 that lies in month m or later, or that there is none: 400
 unfoldable pub monthStart : Date → ℕ → ℕ
-monthStart opened m = min 400 (total lengthAfter (monthsAfter opened + m) - daysAfter opened)
+monthStart opened m = min dayCount (total lengthAfter (monthsAfter opened + m) - daysAfter opened)

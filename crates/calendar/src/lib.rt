@@ -5,7 +5,7 @@ ghost use mathlib.Core.Bool.{true};
 ghost use Prim.Native.Nat.{_*_, _≤_, _<_};
 ghost use Rattle.calendar.specs.Calendar.{leapYear, monthLength, isDate, opens, reached};
 ghost use Rattle.calendar.specs.Calendar.{total, lengthAfter, daysAfter, monthFrom};
-ghost use Rattle.calendar.specs.Calendar.{nextAnswer, weekdayAnswer, dateAnswer, weekdayOn, monthOn, DayAnswer, MonthAnswer};
+ghost use Rattle.calendar.specs.Calendar.{nextAnswer, weekdayAnswer, monthCount, dateAnswer, weekdayOn, monthOn, DayAnswer, MonthAnswer};
 ghost use Rattle.calendar.specs.Work.{daysBefore, yearLength, carry, InYear, monthStart};
 
 #[repr(C)]
@@ -14,6 +14,13 @@ pub struct Date {
     pub month: u32,
     pub day: u32,
 }
+
+// "k from 0 to 399", and the months that those days can touch.
+pub const FINAL_DAY: u32 = 399;
+
+pub const DAY_COUNT: u32 = 400;
+
+pub const MONTH_COUNT: u32 = 15;
 
 // The date of a day, or that the account has no such day.
 pub enum Dated {
@@ -73,7 +80,7 @@ const BEFORE: [u32; 13] = [0, 0, 31, 59, 90, 120, 151, 181, 212, 243, 273, 304, 
 
 const BEFORE_LEAP: [u32; 13] = [0, 0, 31, 60, 91, 121, 152, 182, 213, 244, 274, 305, 335];
 
-// The days of the year before a month (T-06: by a formula).
+// The days of the year before a month.
 fn days_before(leap: bool, month: u32) -> u32
     requires { ⌜ month ≤ 12 ⌝ }
     ensures { λ r. ⌜ r ≡ daysBefore leap month ⌝ }
@@ -244,7 +251,7 @@ pub fn date_of(opened: Date, k: u32) -> Dated
     if !can_open(opened) {
         return Dated::Outside;
     }
-    if k > 399 {
+    if k > FINAL_DAY {
         return Dated::Outside;
     }
     let left = days_before(leap(opened.year), opened.month) + (opened.day - 1) + k;
@@ -271,7 +278,7 @@ pub fn month_of(opened: Date, k: u32) -> u32
 {
     match date_of(opened, k) {
         Dated::On(d) => d.month_from(opened) as u32,
-        Dated::Outside => 15,
+        Dated::Outside => MONTH_COUNT,
     }
 }
 
@@ -290,7 +297,7 @@ pub fn day_of(opened: Date, d: Date) -> Numbered
     if at < first {
         return Numbered::Outside;
     }
-    if at - first > 399 {
+    if at - first > FINAL_DAY {
         return Numbered::Outside;
     }
     Numbered::Day(at - first)
@@ -298,7 +305,7 @@ pub fn day_of(opened: Date, d: Date) -> Numbered
 
 // The first of days 0 to 399 that lies in month m or later, or 400.
 fn month_start(opened: Date, m: u32) -> u32
-    requires { ⌜ (opens opened ≡ true) × (m ≤ 15) ⌝ }
+    requires { ⌜ (opens opened ≡ true) × (m ≤ monthCount) ⌝ }
     ensures { λ r. ⌜ r ≡ monthStart opened m ⌝ }
 {
     let first = days_after(opened);
@@ -306,8 +313,8 @@ fn month_start(opened: Date, m: u32) -> u32
     if at < first {
         return 0;
     }
-    if at - first > 400 {
-        return 400;
+    if at - first > DAY_COUNT {
+        return DAY_COUNT;
     }
     at - first
 }
@@ -319,7 +326,7 @@ pub fn days_of(opened: Date, m: u32) -> Days
     if !can_open(opened) {
         return Days { from: 0, to: 0 };
     }
-    if m > 14 {
+    if m >= MONTH_COUNT {
         return Days { from: 0, to: 0 };
     }
     let from = month_start(opened, m);

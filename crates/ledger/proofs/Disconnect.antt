@@ -33,13 +33,14 @@ ltZ-not (negsuc a) (pos b) = refl
 ltZ-not (negsuc a) (negsuc b) = below-not b a
 
 grounds-of : (t : Terms) (l : Ledger) (e : Event) → e .sort ≡ 10 → Accepted t l e → MayCut t l e
+unfolding refusals
 grounds-of t l e k a =
     let y : isDisconnect e ≡ true = eq-eqb (e .sort) 10 k in
-    let b : leZ (pos (t .cutoff)) (l .balance) ≡ false = simp y at (neither (isDisconnect e && leZ (pos (t .cutoff)) (l .balance)) (isConnect e && ltZ (l .balance) (pos (t .connect))) (a .code12) .0) in (
-      not-false (l .on) (simp y at (neither (isDisconnect e && not (l .on)) (isConnect e && l .on) (a .code11) .0)),
+    let b : leZ (pos (t .cutoff)) (l .balance) ≡ false = simp y at (neither (isDisconnect e && leZ (pos (t .cutoff)) (l .balance)) (isConnect e && ltZ (l .balance) (pos (t .connect))) (a .rule 12) .0) in (
+      not-false (l .on) (simp y at (neither (isDisconnect e && not (l .on)) (isConnect e && l .on) (a .rule 11) .0)),
       ltZ-not (l .balance) (pos (t .cutoff)) ∙ rw b,
-      not-false (warned (e .day) (l .list)) (simp y at (a .code13)),
-      simp y at (a .code14),
+      not-false (warned (e .day) (l .list)) (simp y at (a .rule 13)),
+      simp y at (a .rule 14),
     )
 
 pub disconnect-granted : (t : Terms) (l : Ledger) (e : Event) → e .sort ≡ 10

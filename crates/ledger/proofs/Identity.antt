@@ -14,15 +14,15 @@ use Rattle.terms.specs.declared.Terms.{Terms}
 use Rattle.terms.specs.Terms.{validTerms}
 use Rattle.ledger.specs.declared.Event.{Event}
 use Rattle.ledger.specs.Event.{isPay, isReverse, isCredit, isCharge, isEstimate, isRead, isPlan, isDisconnect, isConnect}
-use Rattle.ledger.specs.Entries.{costIn, Entry, Entries, any, count, sum, find, lastDay, payments, hasNumber, payment, reversed, priceOn, UsageDay, readOn, estimateOn, whOn, usageDay, isBlank, isMetered, estimateCost}
+use Rattle.ledger.specs.Entries.{costIn, Entry, Entries, any, count, sum, sumOf, amountOf, find, lastDay, payments, hasNumber, payment, reversed, priceOn, UsageDay, readOn, estimateOn, whOn, usageDay, isBlank, isMetered, estimateCost}
 use Rattle.ledger.specs.Sums.{kept, credits, charges, reads, settled, standing}
-use Rattle.ledger.specs.Rules.{Ledger, planAllowed}
+use Rattle.ledger.specs.Rules.{Ledger, planAllowed, refusals}
 use Rattle.ledger.specs.Ledger.{opening, Move, planPart, payMove, reverseMove, balanceMove, serviceMove, eventCost, estimateMove, readMove, deferred, planMove, moveOf, moved, accepts, ledgerStep}
 use Rattle.ledger.proofs.Cases.{decide, neither, both, other}
 use Rattle.ledger.proofs.Money.{diff, diff-eq, diff-add, diff-sub, diff-gap, diff-zero, diff-high, by-sign}
 use Rattle.ledger.proofs.Accepted.{Accepted, accepted-by}
 use Rattle.ledger.specs.Invariant.{All, UsedBefore, Invariant}
-use Rattle.ledger.proofs.Weights.{all-map, sum-same, weigh, take-out, one-weighs, given-once}
+use Rattle.ledger.proofs.Weights.{all-map, sum-same, take-out, one-weighs, given-once}
 
 pub invariant-opening : (t : Terms) → t .share ≤ 100 → Invariant t opening
 unfolding kept credits charges reads standing sum reversed any payment find count
@@ -65,7 +65,7 @@ module _ (t : Terms) (l : Entries) (u : ℕ) where
   unfolding usageDay
   estimate-cost-is r = decide (any (estimateOn u) l) (λ e. simp (r, e)) (λ e. simp (r, e))
 
--- The price of a day before the newest event's stays. (T-01: a price counts from its own day on.)
+-- The price of a day before the newest event's stays.
 price-stays : (t : Terms) (x : Entry) (l : Entries) (u : ℕ) → u < x .event .day → priceOn t (x ∷ l) u ≡ priceOn t l u
 unfolding priceOn
 price-stays t x l u h = refl
@@ -81,7 +81,7 @@ unfolding any count
 none-counts p [] f = refl
 none-counts p (x ∷ l) f = let n = neither (p (x .event)) (any p l) f in simp (n .0) (omega (arith, none-counts p l (n .1)))
 
-count-weighs : (p : Event → Bool) (l : Entries) → weigh (λ x b. p (x .event)) (λ x. 1) l ≡ count p l
+count-weighs : (p : Event → Bool) (l : Entries) → sumOf (λ x b. p (x .event)) (λ x. 1) l ≡ count p l
 unfolding count sum
 count-weighs p [] = refl
 count-weighs p (x ∷ l) = omega (arith, count-weighs p l)
@@ -116,7 +116,7 @@ module _ (t : Terms) (l : Entries) (x : Entry) (past : All (UsedBefore (x .event
 
   -- the estimates that stand, at the old prices
   standing-new : standing t (x ∷ l)
-      ≡ weigh (λ y b. isEstimate (y .event) && not (any (readOn (y .event .usage)) (x ∷ l))) (λ y. costIn t l (y .event)) l
+      ≡ sumOf (λ y b. isEstimate (y .event) && not (any (readOn (y .event .usage)) (x ∷ l))) (λ y. costIn t l (y .event)) l
       + cond (isEstimate (x .event) && not (any (readOn (x .event .usage)) (x ∷ l))) (costIn t l (x .event)) 0
   unfolding standing sum
   standing-new = omega (
@@ -127,7 +127,7 @@ module _ (t : Terms) (l : Entries) (x : Entry) (past : All (UsedBefore (x .event
 
 -- the estimate that a read replaces
 pub replaced : (t : Terms) (l : Entries) (u : ℕ) → count (estimateOn u) l ≤ 1 → any (readOn u) l ≡ false
-    → weigh (λ y b. isEstimate (y .event) && eqb (y .event .usage) u) (λ y. costIn t l (y .event)) l ≡ estimateCost (usageDay t l u)
+    → sumOf (λ y b. isEstimate (y .event) && eqb (y .event .usage) u) (λ y. costIn t l (y .event)) l ≡ estimateCost (usageDay t l u)
 replaced t l u h f =
     one-weighs (λ y b. estimateOn u (y .event)) (λ y. costIn t l (y .event)) (nothing-costs (priceOn t l 0)) l (omega (arith, count-weighs (estimateOn u) l))
     ∙ found-costs (priceOn t l) u l
@@ -152,19 +152,22 @@ module _ (t : Terms) (l : Ledger) (e : Event) (p : ℕ) (s : Invariant t l) (a :
   past-then = all-map (UsedBefore (lastDay (l .list))) (UsedBefore (e .day)) (λ y h u. omega (arith, h u, a .order)) (l .list) (s .past)
 
   used-before : UsedBefore (e .day) (entryOf e p)
-  used-before u = leb-false (e .day) (e .usage) (simp u at (a .code7))
+  unfolding refusals
+  used-before u = leb-false (e .day) (e .usage) (simp u at (a .rule 7))
 
   -- an estimate takes a blank day, a read one without a read
   blank-before : isEstimate e ≡ true → (any (readOn (e .usage)) (l .list) ≡ false) × (any (estimateOn (e .usage)) (l .list) ≡ false)
+  unfolding refusals
   blank-before i =
       let d : UsageDay = usageDay t (l .list) (e .usage) in
-      let b : isBlank d ≡ true = not-false (isBlank d) (simp i at (neither (isEstimate e && not (isBlank d)) (isRead e && isMetered d) (a .code8) .0)) in
+      let b : isBlank d ≡ true = not-false (isBlank d) (simp i at (neither (isEstimate e && not (isBlank d)) (isRead e && isMetered d) (a .rule 8) .0)) in
       neither _ _ (not-true _ (sym (blank-is t (l .list) (e .usage)) ∙ b))
 
   unread : isRead e ≡ true → any (readOn (e .usage)) (l .list) ≡ false
+  unfolding refusals
   unread r =
       let d : UsageDay = usageDay t (l .list) (e .usage) in
-      sym (metered-is t (l .list) (e .usage)) ∙ (simp r at (neither (isEstimate e && not (isBlank d)) (isRead e && isMetered d) (a .code8) .1))
+      sym (metered-is t (l .list) (e .usage)) ∙ (simp r at (neither (isEstimate e && not (isBlank d)) (isRead e && isMetered d) (a .rule 8) .1))
 
   pub standing-then : standing t (entryOf e p ∷ l .list) + cond (isRead e) (estimateCost (usageDay t (l .list) (e .usage))) 0
       ≡ standing t (l .list) + cond (isEstimate e) (costIn t (l .list) e) 0
@@ -183,7 +186,7 @@ module _ (t : Terms) (l : Ledger) (e : Event) (p : ℕ) (s : Invariant t l) (a :
       (λ i. simp (r, i) (omega (arith, simp (r, i) at new))))
     where
       new : standing t (entryOf e p ∷ l .list)
-          ≡ weigh (λ y b. isEstimate (y .event) && not (any (readOn (y .event .usage)) (entryOf e p ∷ l .list))) (λ y. costIn t (l .list) (y .event)) (l .list)
+          ≡ sumOf (λ y b. isEstimate (y .event) && not (any (readOn (y .event .usage)) (entryOf e p ∷ l .list))) (λ y. costIn t (l .list) (y .event)) (l .list)
           + cond (isEstimate e && not (any (readOn (e .usage)) (entryOf e p ∷ l .list))) (costIn t (l .list) e) 0
       new = standing-new t (l .list) (entryOf e p) past-then used-before
 
@@ -192,10 +195,10 @@ module _ (t : Terms) (l : Ledger) (e : Event) (p : ℕ) (s : Invariant t l) (a :
 
   kept-then : kept (entryOf e p ∷ l .list) + cond (isReverse e) (payment (e .number) (l .list) .event .amount) 0
       ≡ kept (l .list) + cond (isPay e) (e .amount) 0
-  unfolding kept sum reversed any payment
+  unfolding kept sum reversed any payment refusals
   kept-then = decide (isReverse e)
       (λ r. let i : isPay e ≡ false = other (e .sort) 2 1 refl r in
-      let f : reversed (e .number) (l .list) ≡ false = neither (leb (payments (l .list)) (e .number)) (reversed (e .number) (l .list)) (simp r at (a .code6)) .1 in
+      let f : reversed (e .number) (l .list) ≡ false = neither (leb (payments (l .list)) (e .number)) (reversed (e .number) (l .list)) (simp r at (a .rule 6)) .1 in
       simp (r, i) (omega (
         arith,
         take-out (λ y. isPay (y .event)) (λ y b. payments b) (λ y. y .event .amount) (λ n. reversed n (l .list)) (e .number) f (l .list),
@@ -273,8 +276,8 @@ module _ (t : Terms) (l : Ledger) (e : Event) (s : Invariant t l) (a : Accepted 
       rw (s .identity, diff-gap c d (t .connect) short, diff-add c d (t .connect + d - c)) (diff-zero (t .connect) ∙ diff-eq (t .connect) 0 (c + (t .connect + d - c)) d (omega arith))
 
   plan-fits : isPlan e ≡ true → Fits t l e (planMove t l)
-  unfolding planMove inflow outflow
-  plan-fits y = settle (planMove t l) (deferred t l) 0 (simp +ℤ-idr (deferred-is (not-false (planAllowed t l e) (simp y at (a .code9))))) (rw (eqb-true (e .sort) 9 y) (omega arith)) (omega arith)
+  unfolding planMove inflow outflow refusals
+  plan-fits y = settle (planMove t l) (deferred t l) 0 (simp +ℤ-idr (deferred-is (not-false (planAllowed t l e) (simp y at (a .rule 9))))) (rw (eqb-true (e .sort) 9 y) (omega arith)) (omega arith)
 
   -- the rest move nothing
   still : isPay e ≡ false → isReverse e ≡ false → isCredit e ≡ false → isCharge e ≡ false → isEstimate e ≡ false → isRead e ≡ false → (b : Bool) → Fits t l e (serviceMove l b)
@@ -298,10 +301,10 @@ module _ (t : Terms) (l : Ledger) (e : Event) (s : Invariant t l) (a : Accepted 
   -- ---- what else stays
 
   numbers-then : (p n : ℕ) → reversed n (entryOf e p ∷ l .list) ≡ true → n < payments (entryOf e p ∷ l .list)
-  unfolding reversed any payments count
+  unfolding reversed any payments count refusals
   numbers-then p n r = decide (isReverse e && eqb (e .number) n)
       (λ y. let b = both (isReverse e) (eqb (e .number) n) y in
-      let given = leb-false (payments (l .list)) (e .number) (neither (leb (payments (l .list)) (e .number)) (reversed (e .number) (l .list)) (simp (b .0) at (a .code6)) .0) in
+      let given = leb-false (payments (l .list)) (e .number) (neither (leb (payments (l .list)) (e .number)) (reversed (e .number) (l .list)) (simp (b .0) at (a .rule 6)) .0) in
       omega (arith, given, eqb-true (e .number) n (b .1)))
       (λ f. omega (arith, s .numbers n (simp f at r)))
 

@@ -10,16 +10,16 @@ use lib.Dec.{eqb}
 use borrow.Author.Tests.{eq-eqb}
 use Rattle.terms.specs.declared.Terms.{Terms}
 use Rattle.ledger.specs.Event.{isEstimate}
-use Rattle.ledger.specs.Entries.{Entry, Entries, any, sum, readOn, estimateOn, usageDay, estimateCost, costIn}
+use Rattle.ledger.specs.Entries.{Entry, Entries, any, sum, sumOf, readOn, estimateOn, usageDay, estimateCost, costIn}
 use Rattle.ledger.specs.Rules.{Ledger}
 use Rattle.ledger.specs.Sums.{standing}
 use Rattle.ledger.proofs.Cases.{decide, both}
 use Rattle.ledger.specs.Invariant.{All, Invariant}
-use Rattle.ledger.proofs.Weights.{all-map, weigh, take-out}
+use Rattle.ledger.proofs.Weights.{all-map, take-out}
 use Rattle.ledger.proofs.Identity.{replaced}
 
 -- where a sum is 0, each of its parts is
-each-zero : (m : Entry → Bool) (w : Entry → ℕ) (l : Entries) → weigh (λ (x : Entry) (b : Entries). m x) w l ≡ 0 → All (λ (x : Entry). m x ≡ true → w x ≡ 0) l
+each-zero : (m : Entry → Bool) (w : Entry → ℕ) (l : Entries) → sumOf (λ (x : Entry) (b : Entries). m x) w l ≡ 0 → All (λ (x : Entry). m x ≡ true → w x ≡ 0) l
 unfolding sum
 each-zero m w [] z = tt
 each-zero m w (x ∷ l) z = (λ y. omega (arith, simp y at z), each-zero m w l (omega arith))
@@ -40,7 +40,7 @@ all-units (x ∷ l) = (tt, all-units l)
 
 module _ (t : Terms) (l : Ledger) (s : Invariant t l) where
   unread-cost : (u : ℕ) → any (readOn u) (l .list) ≡ false
-      → weigh (λ (y : Entry) (b : Entries). isEstimate (y .event) && eqb (y .event .usage) u) (λ (y : Entry). costIn t (l .list) (y .event)) (l .list) ≡ estimateCost (usageDay t (l .list) u)
+      → sumOf (λ (y : Entry) (b : Entries). isEstimate (y .event) && eqb (y .event .usage) u) (λ (y : Entry). costIn t (l .list) (y .event)) (l .list) ≡ estimateCost (usageDay t (l .list) u)
   unread-cost u f = replaced t (l .list) u (s .once u) f
 
   day-of-none : standing t (l .list) ≡ 0 → (u : ℕ) → estimateCost (usageDay t (l .list) u) ≡ 0

@@ -8,7 +8,7 @@ use native.Mathlib.Omega.{arith}
 use lib.Dec.{eqb}
 use borrow.Author.Tests.{eqb-true, eqb-false, eq-eqb, ne-eqb}
 use Rattle.ledger.specs.Event.{isPay}
-use Rattle.ledger.specs.Entries.{Entry, Entries, count, sum, noEntry, find, payments, hasNumber}
+use Rattle.ledger.specs.Entries.{Entry, Entries, count, sum, sumOf, noEntry, find, payments, hasNumber}
 use Rattle.ledger.specs.Invariant.{All}
 use Rattle.ledger.proofs.Cases.{decide, both}
 
@@ -22,10 +22,6 @@ unfolding sum
 sum-same P f g h [] a = refl
 sum-same P f g h (x ∷ l) a = omega (arith, sum-same P f g h l (a .1), h x l (a .0))
 
--- the sum of w over the entries that m picks
-abbrev pub weigh : (Entry → Entries → Bool) → (Entry → ℕ) → Entries → ℕ
-weigh m w l = sum (λ (x : Entry) (before : Entries). cond (m x before) (w x) 0) l
-
 -- ---- leaving out what has the key k
 
 take-one : (o : Bool) (q : ℕ → Bool) (k n w : ℕ) → q k ≡ false
@@ -36,22 +32,22 @@ take-one true q k n w f = decide (eqb n k)
     (λ d. simp (d, ne-eqb k n (λ s. eqb-false n k d (sym s))) (omega arith))
 
 pub take-out : (on : Entry → Bool) (key : Entry → Entries → ℕ) (w : Entry → ℕ) (q : ℕ → Bool) (k : ℕ) → q k ≡ false → (l : Entries)
-    → weigh (λ x b. on x && not (q (key x b))) w l
-    ≡ weigh (λ x b. on x && not (eqb k (key x b) || q (key x b))) w l + weigh (λ x b. on x && eqb (key x b) k) w l
+    → sumOf (λ x b. on x && not (q (key x b))) w l
+    ≡ sumOf (λ x b. on x && not (eqb k (key x b) || q (key x b))) w l + sumOf (λ x b. on x && eqb (key x b) k) w l
 unfolding sum
 take-out on key w q k f [] = refl
 take-out on key w q k f (x ∷ l) = omega (arith, take-out on key w q k f l, take-one (on x) q k (key x l) (w x) f)
 
 -- ---- of what is picked once at the most, the sum is the one's
 
-none-weighs : (m : Entry → Entries → Bool) (w : Entry → ℕ) (l : Entries) → weigh m (λ x. 1) l ≡ 0 → weigh m w l ≡ 0
+none-weighs : (m : Entry → Entries → Bool) (w : Entry → ℕ) (l : Entries) → sumOf m (λ x. 1) l ≡ 0 → sumOf m w l ≡ 0
 unfolding sum
 none-weighs m w [] z = refl
 none-weighs m w (x ∷ l) z = decide (m x l)
     (λ t. absurd (omega (arith, simp t at z)))
     (λ f. simp f (omega (arith, none-weighs m w l (omega (arith, simp f at z)))))
 
-pub one-weighs : (m : Entry → Entries → Bool) (w : Entry → ℕ) → w noEntry ≡ 0 → (l : Entries) → weigh m (λ x. 1) l ≤ 1 → weigh m w l ≡ w (find m l)
+pub one-weighs : (m : Entry → Entries → Bool) (w : Entry → ℕ) → w noEntry ≡ 0 → (l : Entries) → sumOf m (λ x. 1) l ≤ 1 → sumOf m w l ≡ w (find m l)
 unfolding sum find
 one-weighs m w z [] h = sym z
 one-weighs m w z (x ∷ l) h = decide (m x l)
@@ -59,14 +55,14 @@ one-weighs m w z (x ∷ l) h = decide (m x l)
     (λ f. simp f (omega (arith, one-weighs m w z l (omega (arith, simp f at h)))))
 
 -- a number not given yet has no payment, and every number one at the most
-not-given : (n : ℕ) (l : Entries) → payments l ≤ n → weigh (hasNumber n) (λ x. 1) l ≡ 0
+not-given : (n : ℕ) (l : Entries) → payments l ≤ n → sumOf (hasNumber n) (λ x. 1) l ≡ 0
 unfolding sum payments count
 not-given n [] h = refl
 not-given n (x ∷ l) h = decide (isPay (x .event))
     (λ t. let h′ : suc (payments l) ≤ n = omega (arith, simp t at h) in simp (t, ne-eqb (payments l) n (λ e. omega arith)) (omega (arith, not-given n l (omega arith))))
     (λ f. simp f (omega (arith, not-given n l (omega (arith, simp f at h)))))
 
-pub given-once : (n : ℕ) (l : Entries) → weigh (hasNumber n) (λ x. 1) l ≤ 1
+pub given-once : (n : ℕ) (l : Entries) → sumOf (hasNumber n) (λ x. 1) l ≤ 1
 unfolding sum
 given-once n [] = omega arith
 given-once n (x ∷ l) = decide (hasNumber n x l)

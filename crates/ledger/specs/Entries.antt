@@ -33,6 +33,13 @@ unfoldable pub sum : (Entry → Entries → ℕ) → Entries → ℕ
 sum f [] = 0
 sum f (x ∷ l) = sum f l + f x l
 
+-- The sum of f over the entries that p picks.
+abbrev pub sumOf : (Entry → Entries → Bool) → (Entry → ℕ) → Entries → ℕ
+sumOf p f l = sum (λ (x : Entry) (before : Entries). cond (p x before) (f x) 0) l
+
+abbrev pub amountOf : Entry → ℕ
+amountOf x = x .event .amount
+
 -- no entry: what is found where there is none
 abbrev pub noEntry : Entry
 noEntry = record {
@@ -65,11 +72,18 @@ payment n l = find (hasNumber n) l
 unfoldable pub reversed : ℕ → Entries → Bool
 reversed n l = any (λ (e : Event). isReverse e && eqb (e .number) n) l
 
+-- a payment kept, and a payment reversed: its number is the count of those before it
+abbrev pub isKept : Entries → Entry → Entries → Bool
+isKept l x before = isPay (x .event) && not (reversed (payments before) l)
+
+abbrev pub isReversed : Entries → Entry → Entries → Bool
+isReversed l x before = isPay (x .event) && reversed (payments before) l
+
 -- "some accepted warning was issued on a day w with 1 ≤ x − w ≤ 7"
 unfoldable pub warned : ℕ → Entries → Bool
 warned x l = any (λ (e : Event). isWarn e && (leb (e .day + 1) x && leb x (e .day + 7))) l
 
--- The price in force on usage day u: the opening price on every day. (T-01 will change this definition.)
+-- The price in force on usage day u: the opening price on every day.
 unfoldable pub priceOn : Terms → Entries → ℕ → ℕ
 priceOn t l u = t .price
 
@@ -114,7 +128,7 @@ estimateCost blank = 0
 estimateCost (estimated wh cost) = cost
 estimateCost (metered wh cost) = 0
 
--- "A mark in L covers days `from` to `to`." (T-10 will change this definition.)
+-- "A mark in L covers days `from` to `to`."
 unfoldable pub covered : ℕ → ℕ → Entries → Bool
 covered kind d l = any (λ (e : Event). isMark e && (eqb (e .kind) kind && (leb (e .from) d && leb d (e .to)))) l
 
@@ -130,11 +144,14 @@ weekday t d = weekdayOf (dateOn (t .opened) d)
 unfoldable pub barred : Terms → ℕ → Entries → Bool
 barred t d l = leb 5 (weekday t d) || (covered 1 d l || (covered 2 d l || covered 3 d l))
 
--- "Business days are Monday to Friday." (T-03 will change this definition.)
+-- "Business days are Monday to Friday."
 unfoldable pub business : Terms → Entries → ℕ → Bool
 business t l d = ltb (weekday t d) 5
 
+-- how many business days are among days w+1 to x
+abbrev pub businessDays : Terms → Entries → ℕ → ℕ → ℕ
+businessDays t l w x = countDays (λ (d : ℕ). ltb w d && business t l d) (suc x)
+
 -- "some weather day w ≤ x has at most one business day among days w+1 to x"
 unfoldable pub weatherNear : Terms → Entries → ℕ → Bool
-weatherNear t l x =
-    anyDay (λ (w : ℕ). weather l w && leb (countDays (λ (d : ℕ). ltb w d && business t l d) (suc x)) 1) (suc x)
+weatherNear t l x = anyDay (λ (w : ℕ). weather l w && leb (businessDays t l w x) 1) (suc x)

@@ -2,6 +2,7 @@
 use Prim.Native.Nat.{ℕ}
 use mathlib.Core.Bool.{Bool, true, false, cond, _&&_, _||_}
 use lib.Dec.{leb, eqb}
+use Rattle.calendar.specs.Calendar.{finalDay}
 use Rattle.terms.specs.Terms.{within}
 use Rattle.ledger.specs.declared.Event.{Event}
 
@@ -38,22 +39,32 @@ isDisconnect e = eqb (e .sort) 10
 abbrev pub isConnect : Event → Bool
 isConnect e = eqb (e .sort) 11
 
+-- the largest amount, in cents, and the largest reading
+abbrev pub maxAmount : ℕ
+maxAmount = 10000000
+
+abbrev pub maxWh : ℕ
+maxWh = 9999999
+
 -- "**pay** amount (1 to 10,000,000)"; "**credit** amount, **charge** kind and amount, amounts within the limits of pay".
 abbrev pub amountInLimits : Event → Bool
-amountInLimits e = within 1 10000000 (e .amount)
+amountInLimits e = within 1 maxAmount (e .amount)
 
 -- "wh (0 to 9,999,999)"
 abbrev pub whInLimits : Event → Bool
-whInLimits e = leb (e .wh) 9999999
+whInLimits e = leb (e .wh) maxWh
 
 -- "with x ≤ from ≤ to ≤ 399"
 abbrev pub markDaysInLimits : Event → Bool
-markDaysInLimits e = leb (e .day) (e .from) && (leb (e .from) (e .to) && leb (e .to) 399)
+markDaysInLimits e = leb (e .day) (e .from) && (leb (e .from) (e .to) && leb (e .to) finalDay)
 
 -- "Charge kinds 1 to 5"; mark "1 extreme weather emergency, 2 payment means down, 3 confirmed assistance pledge";
 -- plan "Kind 1, required", "Kind 2, offered".
+abbrev pub chargeKindCount : ℕ
+chargeKindCount = 5
+
 abbrev pub chargeKinds : ℕ → Bool
-chargeKinds k = within 1 5 k
+chargeKinds k = within 1 chargeKindCount k
 
 abbrev pub markKinds : ℕ → Bool
 markKinds k = within 1 3 k

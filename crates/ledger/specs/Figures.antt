@@ -34,32 +34,36 @@ shown f = shownBy (run (f .terms) (record { ledger = opening; answer = answer 0 
 
 -- ---- the events, by their words: the day, then the fields
 
+-- of sort s: amount, kind, usage day and Wh, from and to
+abbrev pub event : ℕ → ℕ → ℕ → ℕ → ℕ → ℕ → ℕ → ℕ → Event
+event s x n k u w from to = record { sort = s; day = x; amount = n; number = 0; kind = k; usage = u; wh = w; from = from; to = to }
+
 abbrev pub pay : ℕ → ℕ → Event
-pay x n = record { sort = 1; day = x; amount = n; number = 0; kind = 0; usage = 0; wh = 0; from = 0; to = 0 }
+pay x n = event 1 x n 0 0 0 0 0
 
 abbrev pub charge : ℕ → ℕ → Event
-charge x n = record { sort = 4; day = x; amount = n; number = 0; kind = 1; usage = 0; wh = 0; from = 0; to = 0 }
+charge x n = event 4 x n 1 0 0 0 0
 
 abbrev pub estimate : ℕ → ℕ → ℕ → Event
-estimate x u w = record { sort = 5; day = x; amount = 0; number = 0; kind = 0; usage = u; wh = w; from = 0; to = 0 }
+estimate x u w = event 5 x 0 0 u w 0 0
 
 abbrev pub read : ℕ → ℕ → ℕ → Event
-read x u w = record { sort = 6; day = x; amount = 0; number = 0; kind = 0; usage = u; wh = w; from = 0; to = 0 }
+read x u w = event 6 x 0 0 u w 0 0
 
 abbrev pub warn : ℕ → Event
-warn x = record { sort = 7; day = x; amount = 0; number = 0; kind = 0; usage = 0; wh = 0; from = 0; to = 0 }
+warn x = event 7 x 0 0 0 0 0 0
 
 abbrev pub mark : ℕ → ℕ → ℕ → ℕ → Event
-mark x k from to = record { sort = 8; day = x; amount = 0; number = 0; kind = k; usage = 0; wh = 0; from = from; to = to }
+mark x k from to = event 8 x 0 k 0 0 from to
 
 abbrev pub plan : ℕ → ℕ → Event
-plan x k = record { sort = 9; day = x; amount = 0; number = 0; kind = k; usage = 0; wh = 0; from = 0; to = 0 }
+plan x k = event 9 x 0 k 0 0 0 0
 
 abbrev pub disconnect : ℕ → Event
-disconnect x = record { sort = 10; day = x; amount = 0; number = 0; kind = 0; usage = 0; wh = 0; from = 0; to = 0 }
+disconnect x = event 10 x 0 0 0 0 0 0
 
 abbrev pub connect : ℕ → Event
-connect x = record { sort = 11; day = x; amount = 0; number = 0; kind = 0; usage = 0; wh = 0; from = 0; to = 0 }
+connect x = event 11 x 0 0 0 0 0 0
 
 -- "terms `2024-01-01`, 1250, 5000, 1000, 50 (day 0 is a Monday)"
 abbrev pub terms : Terms

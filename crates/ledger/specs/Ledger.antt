@@ -23,37 +23,32 @@ pub record Move : Type 0 where
   pub plan : ℕ
   pub on : Bool
 
--- "Plan part = the smaller of R and amount × share / 100 rounded down." (T-07 will change this definition.)
+abbrev pub effect : ℕ → ℕ → ℤ → ℕ → Bool → Move
+effect value part b r on = record { value = value; part = part; balance = b; plan = r; on = on }
+
+-- "Plan part = the smaller of R and amount × share / 100 rounded down."
 unfoldable pub planPart : Terms → Ledger → ℕ → ℕ
 planPart t l amount = min (l .plan) (amount * t .share / 100)
 
 -- "R falls by it; B rises by the rest. Value: the payment's number, from 0."
 unfoldable pub payMove : Terms → Ledger → Event → Move
-payMove t l e = record {
-  value = payments (l .list);
-  part = planPart t l (e .amount);
-  balance = l .balance +ℤ pos (e .amount - planPart t l (e .amount));
-  plan = l .plan - planPart t l (e .amount);
-  on = l .on;
-}
+payMove t l e =
+    let part : ℕ = planPart t l (e .amount) in
+    effect (payments (l .list)) part (l .balance +ℤ pos (e .amount - part)) (l .plan - part) (l .on)
 
 -- "The payment's own two parts are taken back: B falls, R rises."
 unfoldable pub reverseMove : Ledger → Event → Move
-reverseMove l e = record {
-  value = 0;
-  part = 0;
-  balance = l .balance -ℤ pos (payment (e .number) (l .list) .event .amount - payment (e .number) (l .list) .part);
-  plan = l .plan + payment (e .number) (l .list) .part;
-  on = l .on;
-}
+reverseMove l e =
+    let p : Entry = payment (e .number) (l .list) in
+    effect 0 0 (l .balance -ℤ pos (p .event .amount - p .part)) (l .plan + p .part) (l .on)
 
 -- the move of B alone
 abbrev pub balanceMove : Ledger → ℕ → ℤ → Move
-balanceMove l v b = record { value = v; part = 0; balance = b; plan = l .plan; on = l .on }
+balanceMove l v b = effect v 0 b (l .plan) (l .on)
 
 -- the move of service alone
 abbrev pub serviceMove : Ledger → Bool → Move
-serviceMove l b = record { value = 0; part = 0; balance = l .balance; plan = l .plan; on = b }
+serviceMove l b = effect 0 0 (l .balance) (l .plan) b
 
 -- the cost of the event's Wh on its usage day
 abbrev pub eventCost : Terms → Ledger → Event → ℕ
@@ -75,7 +70,7 @@ deferred t l = natAbs (pos (t .connect) -ℤ l .balance)
 
 -- "B becomes `connect` and R rises by D. Value: D."
 unfoldable pub planMove : Terms → Ledger → Move
-planMove t l = record { value = deferred t l; part = 0; balance = pos (t .connect); plan = l .plan + deferred t l; on = l .on }
+planMove t l = effect (deferred t l) 0 (pos (t .connect)) (l .plan + deferred t l) (l .on)
 
 -- "A credit raises B by its whole amount, a charge lowers it by its own; R stays."; "Service is then off."; "Service is then on."
 -- A warn and a mark move nothing.

@@ -1,16 +1,16 @@
 -- The month summary over L (document 01, "Month summary").
 use Prim.Native.Nat.{ℕ, suc, _+_, _*_, _/_}
-use mathlib.Core.Bool.{Bool, true, false, cond, not, _&&_}
+use mathlib.Core.Bool.{Bool, false, cond, _&&_}
 use mathlib.Core.List.{List, [], _∷_}
 use lib.Dec.{eqb}
-use Rattle.calendar.specs.Calendar.{dateOn, monthFrom, total}
+use Rattle.calendar.specs.Calendar.{dateOn, monthFrom, total, dayCount}
 use Rattle.calendar.specs.Days.{anyDay}
 use Rattle.terms.specs.declared.Terms.{Terms}
 use Rattle.ledger.specs.declared.Counted.{Counted}
 use Rattle.ledger.specs.declared.Used.{Used}
 use Rattle.ledger.specs.declared.Summary.{Summary}
-use Rattle.ledger.specs.Event.{isPay, isCharge}
-use Rattle.ledger.specs.Entries.{Entry, Entries, sum, payments, reversed, UsageDay, blank, estimated, metered, usageDay, estimateCost}
+use Rattle.ledger.specs.Event.{isCharge}
+use Rattle.ledger.specs.Entries.{Entry, Entries, sumOf, amountOf, isKept, isReversed, UsageDay, blank, estimated, metered, usageDay, estimateCost}
 
 -- "Month m, 0 to 14, counts from the opening month": the month of day d.
 abbrev pub monthOf : Terms → ℕ → ℕ
@@ -21,26 +21,18 @@ inMonth t m d = eqb (monthOf t d) m
 
 -- "a month holding none of days 0 to 399 is refused with 3"
 unfoldable pub hasDays : Terms → ℕ → Bool
-hasDays t m = anyDay (inMonth t m) 400
+hasDays t m = anyDay (inMonth t m) dayCount
 
--- The sum of f over month m's payments, "by the payment's day": those for which p of their being reversed holds. A payment's number is
--- the count of those before it.
-unfoldable pub paymentsIn : Terms → ℕ → (Bool → Bool) → (Entry → ℕ) → Entries → ℕ
-paymentsIn t m p f l =
-    sum
-    (λ (x : Entry) (before : Entries). cond (isPay (x .event) && (inMonth t m (x .event .day) && p (reversed (payments before) l))) (f x) 0)
-    l
+-- "count and sum" of month m's payments that p picks, "by the payment's day"
+unfoldable pub paymentsIn : Terms → ℕ → (Entry → Entries → Bool) → (Entry → ℕ) → Entries → ℕ
+paymentsIn t m p f l = sumOf (λ (x : Entry) (before : Entries). inMonth t m (x .event .day) && p x before) f l
 
-abbrev pub isReversed : Bool → Bool
-isReversed b = b
-
--- "count and sum of payments kept, and of payments reversed"
-abbrev pub countedIn : Terms → ℕ → (Bool → Bool) → Entries → Counted
-countedIn t m p l = record { count = paymentsIn t m p (λ (x : Entry). 1) l; sum = paymentsIn t m p (λ (x : Entry). x .event .amount) l }
+abbrev pub countedIn : Terms → ℕ → (Entry → Entries → Bool) → Entries → Counted
+countedIn t m p l = record { count = paymentsIn t m p (λ (x : Entry). 1) l; sum = paymentsIn t m p amountOf l }
 
 -- The sum of f over month m's usage days: "by usage day".
 unfoldable pub usageIn : Terms → ℕ → (UsageDay → ℕ) → Entries → ℕ
-usageIn t m f l = total (λ (u : ℕ). cond (inMonth t m u) (f (usageDay t l u)) 0) 400
+usageIn t m f l = total (λ (u : ℕ). cond (inMonth t m u) (f (usageDay t l u)) 0) dayCount
 
 abbrev pub meteredWh : UsageDay → ℕ
 meteredWh blank = 0
@@ -67,9 +59,7 @@ estimatedIn t m l = record { wh = usageIn t m estimatedWh l; cost = usageIn t m 
 -- "charges by kind, by event day"
 unfoldable pub chargesIn : Terms → ℕ → ℕ → Entries → ℕ
 chargesIn t m kind l =
-    sum
-    (λ (x : Entry) (before : Entries). cond (isCharge (x .event) && (eqb (x .event .kind) kind && eqb (monthOf t (x .event .day)) m)) (x .event .amount) 0)
-    l
+    sumOf (λ (x : Entry) (before : Entries). isCharge (x .event) && (eqb (x .event .kind) kind && inMonth t m (x .event .day))) amountOf l
 
 -- "((usage cost + kinds 1 and 2) × 100,000 + half the Wh rounded down) / Wh, rounded down, marked missing and 0 where Wh is 0"
 unfoldable pub averageOf : ℕ → ℕ → ℕ
@@ -100,8 +90,8 @@ ledgerSummary t l m =
     cond (hasDays t m)
     (record {
       code = 0;
-      kept = countedIn t m not l;
-      reversed = countedIn t m isReversed l;
+      kept = countedIn t m (isKept l) l;
+      reversed = countedIn t m (isReversed l) l;
       metered = meteredIn t m l;
       estimated = estimatedIn t m l;
       charges = chargesIn t m 1 l ∷ chargesIn t m 2 l ∷ chargesIn t m 3 l ∷ chargesIn t m 4 l ∷ chargesIn t m 5 l ∷ [];

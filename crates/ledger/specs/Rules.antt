@@ -7,6 +7,7 @@ use lib.ListN.{length}
 use lib.Dec.{ltb, leb, eqb}
 use lib.IntN.{ℤ, pos, negℤ}
 use lib.Signed.{ltZ, leZ}
+use Rattle.calendar.specs.Calendar.{finalDay}
 use Rattle.terms.specs.declared.Terms.{Terms}
 use Rattle.ledger.specs.declared.Event.{Event}
 use Rattle.ledger.specs.Event.{isPay, isReverse, isEstimate, isRead, isPlan, isDisconnect, isConnect, inLimits}
@@ -19,12 +20,22 @@ pub record Ledger : Type 0 where
   pub plan : ℕ
   pub on : Bool
 
+-- "Each accepted event counts towards 4,096."; "At most 128 payments."; "B ≤ −5,000"
+abbrev pub maxEvents : ℕ
+maxEvents = 4096
+
+abbrev pub maxPayments : ℕ
+maxPayments = 128
+
+abbrev pub requiredDebt : ℕ
+requiredDebt = 5000
+
 -- "Kind 1, required: B ≤ −5,000, and some weather day w ≤ x has at most one business day among days w+1 to x."
 -- "Kind 2, offered: B < 0."
 unfoldable pub planAllowed : Terms → Ledger → Event → Bool
 planAllowed t l e =
     cond (eqb (e .kind) 1)
-    (leZ (l .balance) (negℤ (pos 5000)) && weatherNear t (l .list) (e .day))
+    (leZ (l .balance) (negℤ (pos requiredDebt)) && weatherNear t (l .list) (e .day))
     (ltZ (l .balance) (pos 0))
 
 abbrev pub Rule : Type 0
@@ -32,11 +43,11 @@ Rule = ℕ × Bool
 
 -- The day check, code 2: "x before the last accepted day, or above 399".
 abbrev pub dayRefused : Ledger → Event → Bool
-dayRefused l e = ltb (e .day) (lastDay (l .list)) || ltb 399 (e .day)
+dayRefused l e = ltb (e .day) (lastDay (l .list)) || ltb finalDay (e .day)
 
 -- The fullness check, code 4: "4,096 events accepted already".
 abbrev pub isFull : Ledger → Bool
-isFull l = leb 4096 (length (l .list))
+isFull l = leb maxEvents (length (l .list))
 
 -- "service is on, the balance is below the cutoff, an accepted warning is one to seven days old, and the day is not barred"
 abbrev pub MayCut : Terms → Ledger → Event → Type 0
@@ -46,13 +57,13 @@ MayCut t l e =
     × (warned (e .day) (l .list) ≡ true)
     × (barred t (e .day) (l .list) ≡ false)
 
--- The table, each number with when it applies, in the order in which they are looked at.
+-- The table, each number with when it applies. "Several apply: the lowest number of 1 to 14": its order is the rule.
 unfoldable pub refusals : Terms → Ledger → Event → List Rule
 refusals t l e =
     (2, dayRefused l e)
     ∷ (3, not (inLimits e))
     ∷ (4, isFull l)
-    ∷ (5, isPay e && leb 128 (payments (l .list)))
+    ∷ (5, isPay e && leb maxPayments (payments (l .list)))
     ∷ (6, isReverse e && (leb (payments (l .list)) (e .number) || reversed (e .number) (l .list)))
     ∷ (7, (isEstimate e || isRead e) && leb (e .day) (e .usage))
     ∷ (8, (isEstimate e && not (isBlank (usageDay t (l .list) (e .usage)))) || (isRead e && isMetered (usageDay t (l .list) (e .usage))))
@@ -64,7 +75,7 @@ refusals t l e =
     ∷ (14, isDisconnect e && barred t (e .day) (l .list))
     ∷ []
 
--- "Several apply: the lowest number of 1 to 14": the first of the table, whose numbers ascend. 0 where none applies.
+-- the number of the first rule that applies; 0 where none does
 unfoldable pub firstOf : List Rule → ℕ
 firstOf [] = 0
 firstOf (r ∷ rs) = cond (r .1) (r .0) (firstOf rs)

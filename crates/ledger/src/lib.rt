@@ -18,6 +18,18 @@ pub struct Event {
     pub to: u32,
 }
 
+// The largest amount, in cents, and the largest reading.
+pub const MAX_AMOUNT: u32 = 10000000;
+
+pub const MAX_WH: u32 = 9999999;
+
+// "Each accepted event counts towards 4,096."; "At most 128 payments."; a plan is required from B of -5,000 down.
+pub const MAX_EVENTS: u32 = 4096;
+
+pub const MAX_PAYMENTS: u32 = 128;
+
+pub const REQUIRED_DEBT: u64 = 5000;
+
 // What a posted event is answered.
 #[repr(C)]
 pub struct Answer {

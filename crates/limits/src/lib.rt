@@ -4,32 +4,33 @@ use ledger::Event;
 ghost use mathlib.Core.Path.{_≡_};
 ghost use mathlib.Core.Bool.{cond, _&&_};
 ghost use lib.Dec.{leb};
+ghost use Rattle.calendar.specs.Calendar.{finalDay};
 ghost use Rattle.terms.specs.Terms.{within};
-ghost use Rattle.ledger.specs.Event.{inLimits, chargeKinds, markKinds, planKinds};
+ghost use Rattle.ledger.specs.Event.{maxAmount, maxWh, inLimits, chargeKinds, markKinds, planKinds};
 
 fn amount_code(amount: u32) -> u8
-    ensures { λ r. ⌜ r ≡ cond (within 1 10000000 amount) 0 3 ⌝ }
+    ensures { λ r. ⌜ r ≡ cond (within 1 maxAmount amount) 0 3 ⌝ }
 {
     if amount < 1 {
         return 3;
     }
-    if amount > 10000000 {
+    if amount > ledger::MAX_AMOUNT {
         return 3;
     }
     0
 }
 
 fn wh_code(wh: u32) -> u8
-    ensures { λ r. ⌜ r ≡ cond (leb wh 9999999) 0 3 ⌝ }
+    ensures { λ r. ⌜ r ≡ cond (leb wh maxWh) 0 3 ⌝ }
 {
-    if wh > 9999999 {
+    if wh > ledger::MAX_WH {
         return 3;
     }
     0
 }
 
 fn charge_code(kind: u32, amount: u32) -> u8
-    ensures { λ r. ⌜ r ≡ cond (chargeKinds kind && within 1 10000000 amount) 0 3 ⌝ }
+    ensures { λ r. ⌜ r ≡ cond (chargeKinds kind && within 1 maxAmount amount) 0 3 ⌝ }
 {
     match kind {
         1 | 2 | 3 | 4 | 5 => amount_code(amount),
@@ -38,7 +39,7 @@ fn charge_code(kind: u32, amount: u32) -> u8
 }
 
 fn span_code(day: u32, from: u32, to: u32) -> u8
-    ensures { λ r. ⌜ r ≡ cond (leb day from && (leb from to && leb to 399)) 0 3 ⌝ }
+    ensures { λ r. ⌜ r ≡ cond (leb day from && (leb from to && leb to finalDay)) 0 3 ⌝ }
 {
     if from < day {
         return 3;
@@ -46,14 +47,14 @@ fn span_code(day: u32, from: u32, to: u32) -> u8
     if to < from {
         return 3;
     }
-    if to > 399 {
+    if to > calendar::FINAL_DAY {
         return 3;
     }
     0
 }
 
 fn mark_code(kind: u32, day: u32, from: u32, to: u32) -> u8
-    ensures { λ r. ⌜ r ≡ cond (markKinds kind && (leb day from && (leb from to && leb to 399))) 0 3 ⌝ }
+    ensures { λ r. ⌜ r ≡ cond (markKinds kind && (leb day from && (leb from to && leb to finalDay))) 0 3 ⌝ }
 {
     match kind {
         1 | 2 | 3 => span_code(day, from, to),

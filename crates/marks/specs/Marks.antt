@@ -5,6 +5,7 @@ use mathlib.Core.List.{List}
 use lib.ListN.{getD, set}
 use lib.Dec.{ltb, leb, eqb}
 use lib.Bits.{bitAnd, bitOr}
+use Rattle.calendar.specs.Calendar.{finalDay}
 use Rattle.marks.specs.declared.Found.{Found}
 use Rattle.marks.specs.declared.Found.the-variants.{At, Missing}
 
@@ -46,16 +47,16 @@ nearOf marks w (suc d) left =
 
 -- "A mark covers days `from` to `to`": setting a mark is an or with its bit.
 unfoldable pub marked : List ℕ → ℕ → ℕ → ℕ → List ℕ
-marked marks kind from to = cond (leb to 399) (markRange marks (markBit kind) from (to + 1 - from)) marks
+marked marks kind from to = cond (leb to finalDay) (markRange marks (markBit kind) from (to + 1 - from)) marks
 
 -- barred is a mask test: any of kinds 1, 2 and 3
 unfoldable pub barringOn : List ℕ → ℕ → Bool
-barringOn marks d = cond (leb d 399) (not (eqb (bitAnd (getD marks d 0) 7) 0)) false
+barringOn marks d = cond (leb d finalDay) (not (eqb (bitAnd (getD marks d 0) 7) 0)) false
 
 -- the newest warning of the seven days before day x
 unfoldable pub latestWarning : List ℕ → ℕ → Found
-latestWarning warned x = cond (leb x 399) (latestOf warned x 7) Missing
+latestWarning warned x = cond (leb x finalDay) (latestOf warned x 7) Missing
 
 -- whether some weather day has at most one business day after it up to day x, whose weekday is w
 unfoldable pub weatherNear : List ℕ → ℕ → ℕ → Bool
-weatherNear marks w x = cond (leb x 399) (nearOf marks w x 1) false
+weatherNear marks w x = cond (leb x finalDay) (nearOf marks w x 1) false

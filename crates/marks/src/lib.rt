@@ -1,8 +1,12 @@
 // One byte of marks a day, and one of warnings: setting, testing and searching them.
-// Its code uses nothing else; its proofs use the calendar's counts of days. Its promises cite specs/Marks.antt.
+// It uses the calendar. Its promises cite specs/Marks.antt.
 ghost use mathlib.Core.Path.{_≡_};
 ghost use Prim.Native.Nat.{_+_, _-_, _≤_, _<_};
+ghost use Rattle.calendar.specs.Calendar.{dayCount};
 ghost use Rattle.marks.specs.Marks.{markBit, markRange, dayBefore, businessLeft, nearOf, marked, barringOn, latestWarning, weatherNear};
+
+// A byte for each day.
+pub type DayBytes = [u8; calendar::DAY_COUNT as usize];
 
 // The day of a warning, or that there is none.
 pub enum Found {
@@ -23,8 +27,8 @@ fn mark_bit(kind: u32) -> u8
 }
 
 // Sets the bit from day `from` to day `to`.
-fn set_range(marks: &mut [u8; 400], bit: u8, from: u32, to: u32)
-    requires { ⌜ (from ≤ to) × (to < 400) ⌝ }
+fn set_range(marks: &mut DayBytes, bit: u8, from: u32, to: u32)
+    requires { ⌜ (from ≤ to) × (to < dayCount) ⌝ }
     ensures { λ _. ⌜ now (marks .exit) ≡ markRange (now (marks .entry)) bit from (to + 1 - from) ⌝ }
 {
     let mut d = from;
@@ -36,10 +40,10 @@ fn set_range(marks: &mut [u8; 400], bit: u8, from: u32, to: u32)
 }
 
 // Sets the kind's mark from day `from` to day `to`.
-pub fn set(marks: &mut [u8; 400], kind: u32, from: u32, to: u32)
+pub fn set(marks: &mut DayBytes, kind: u32, from: u32, to: u32)
     ensures { λ _. ⌜ now (marks .exit) ≡ marked (now (marks .entry)) kind from to ⌝ }
 {
-    if to > 399 {
+    if to > calendar::FINAL_DAY {
         return;
     }
     if to < from {
@@ -49,10 +53,10 @@ pub fn set(marks: &mut [u8; 400], kind: u32, from: u32, to: u32)
 }
 
 // Whether a mark bars a disconnect on the day.
-pub fn barring(marks: &[u8; 400], day: u32) -> bool
+pub fn barring(marks: &DayBytes, day: u32) -> bool
     ensures { λ r. ⌜ r ≡ barringOn (now (marks .entry)) day ⌝ }
 {
-    if day > 399 {
+    if day > calendar::FINAL_DAY {
         return false;
     }
     let i = day as usize;
@@ -60,10 +64,10 @@ pub fn barring(marks: &[u8; 400], day: u32) -> bool
 }
 
 // The newest warning of the seven days before the day.
-pub fn latest(warned: &[u8; 400], day: u32) -> Found
+pub fn latest(warned: &DayBytes, day: u32) -> Found
     ensures { λ r. ⌜ r ≡ latestWarning (now (warned .entry)) day ⌝ }
 {
-    if day > 399 {
+    if day > calendar::FINAL_DAY {
         return Found::Missing;
     }
     let mut d = day;
@@ -109,10 +113,10 @@ fn business_left(weekday: u32, left: u32) -> u32
 }
 
 // Whether a weather day lies so near before or on the day that at most one business day has come since.
-pub fn weather_near(marks: &[u8; 400], weekday: u32, day: u32) -> bool
+pub fn weather_near(marks: &DayBytes, weekday: u32, day: u32) -> bool
     ensures { λ r. ⌜ r ≡ weatherNear (now (marks .entry)) weekday day ⌝ }
 {
-    if day > 399 {
+    if day > calendar::FINAL_DAY {
         return false;
     }
     let mut d = day;

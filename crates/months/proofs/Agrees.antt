@@ -15,10 +15,11 @@ use Rattle.terms.specs.Terms.{validTerms}
 use Rattle.terms.specs.declared.Terms.{Terms}
 use Rattle.ledger.specs.declared.Event.{Event}
 use Rattle.ledger.specs.declared.Summary.{Summary}
-use Rattle.ledger.specs.Entries.{Entry, payments, payment, reversed, UsageDay, blank, estimated, metered, usageDay, estimateCost}
+use Rattle.ledger.specs.Event.{isPay}
+use Rattle.ledger.specs.Entries.{Entry, Entries, amountOf, payments, payment, reversed, UsageDay, blank, estimated, metered, usageDay, estimateCost}
 use Rattle.ledger.specs.Rules.{Ledger}
 use Rattle.ledger.specs.Ledger.{ledgerOf}
-use Rattle.ledger.specs.Months.{monthOf, inMonth, hasDays, paymentsIn, isReversed, usageIn, meteredWh, meteredCost, estimatedWh, chargesIn, noSummary, ledgerSummary}
+use Rattle.ledger.specs.Months.{monthOf, inMonth, hasDays, paymentsIn, usageIn, meteredWh, meteredCost, estimatedWh, chargesIn, noSummary, ledgerSummary}
 use Rattle.ledger.proofs.Cases.{decide, both}
 use Rattle.account.specs.Record.{costHeld}
 use Rattle.moves.specs.declared.Usage.{Usage}
@@ -30,7 +31,7 @@ use Rattle.refinement.specs.Lists.{Made}
 use Rattle.refinement.specs.Agree.{Agree, usageOf, paymentOf}
 use Rattle.refinement.proofs.Agreed.{is-account}
 use Rattle.refinement.proofs.Lists.{made-stands}
-use Rattle.months.specs.Summary.{inMonthOf, paymentsBy, one, amountOf, whMetered, costMetered, whEstimated, usageBy, summaryBy, summaryOf, IsSummary}
+use Rattle.months.specs.Summary.{inMonthOf, heldKept, heldReversed, paymentsBy, one, heldAmount, whMetered, costMetered, whEstimated, usageBy, summaryBy, summaryOf, IsSummary}
 use Rattle.months.proofs.Sums.{total-same, any-same, any-none}
 use Rattle.months.proofs.Numbers.{by-number, Dated, dated-after}
 
@@ -59,13 +60,15 @@ module _ (t : Terms) (m : ℕ) (o : opens (t .opened) ≡ true) where
   month-small y = decide (leb m 14) (leb-true m 14) (λ f. absurd (true≢false (sym y ∙ any-none _ 400 (λ k h. late k h (leb-false m 14 f)))))
 
   module _ (a : Account) (l : Ledger) (g : Agree t a l) (d : Dated (l .list)) where
-    paid : (p : Bool → Bool) (f : Payment → ℕ) (w : Entry → ℕ) → ((n : ℕ) → f (paymentOf n (l .list)) ≡ w (payment n (l .list)))
-        → paymentsBy (inMonthOf (t .opened) m) p f (a .payments) (a .totals .count) ≡ paymentsIn t m p w (l .list)
+    paid : (p : Payment → Bool) (q : ℕ → Bool) (f : Payment → ℕ) (w : Entry → ℕ)
+        → ((n : ℕ) → p (paymentOf n (l .list)) ≡ q n) → ((n : ℕ) → f (paymentOf n (l .list)) ≡ w (payment n (l .list)))
+        → paymentsBy (inMonthOf (t .opened) m) p f (a .payments) (a .totals .count)
+        ≡ paymentsIn t m (λ (x : Entry) (before : Entries). isPay (x .event) && q (payments before)) w (l .list)
     unfolding paymentsBy paymentsIn
-    paid p f w h =
+    paid p q f w i h =
         rw (g .sums .count)
-        (total-same _ _ (payments (l .list)) (λ n b. rw (g .kept .payments n b, in-month (payment n (l .list) .event .day) (d n), h n))
-        ∙ sym (by-number (λ (x : Entry) (n : ℕ). inMonth t m (x .event .day) && p (reversed n (l .list))) w (l .list)))
+        (total-same _ _ (payments (l .list)) (λ n b. rw (g .kept .payments n b, in-month (payment n (l .list) .event .day) (d n), i n, h n))
+        ∙ sym (by-number (λ (x : Entry). inMonth t m (x .event .day)) q w (l .list)))
 
     used : (f : Usage → ℕ) (w : UsageDay → ℕ) → ((u : UsageDay) → f (usageOf u) ≡ w u)
         → usageBy (inMonthOf (t .opened) m) f (a .days) 400 ≡ usageIn t m w (l .list)
@@ -103,11 +106,18 @@ module _ (t : Terms) (m : ℕ) (o : opens (t .opened) ≡ true) where
     cost-estimated (estimated wh cost) = refl
     cost-estimated (metered wh cost) = refl
 
+    -- by the payment's number
+    abbrev live : ℕ → Bool
+    live n = not (reversed n (l .list))
+
+    abbrev back : ℕ → Bool
+    back n = reversed n (l .list)
+
     pub summary-is : summaryOf a m ≡ ledgerSummary t (l .list) m
     unfolding summaryBy ledgerSummary
     summary-is = rw (is-account t a l g, g .terms, has-days) (decide (hasDays t m)
         (λ y. let h : m ≤ 14 = month-small y in
-        rw (y, first h, charge 1 h (omega arith), charge 2 h (omega arith), charge 3 h (omega arith), charge 4 h (omega arith), small 1, small 2, paid not one (λ (x : Entry). 1) (λ n. refl), paid not amountOf (λ (x : Entry). x .event .amount) (λ n. refl), paid isReversed one (λ (x : Entry). 1) (λ n. refl), paid isReversed amountOf (λ (x : Entry). x .event .amount) (λ n. refl), used whMetered meteredWh wh-metered, used costMetered meteredCost cost-metered, used whEstimated estimatedWh wh-estimated, used costHeld estimateCost cost-estimated))
+        rw (y, first h, charge 1 h (omega arith), charge 2 h (omega arith), charge 3 h (omega arith), charge 4 h (omega arith), small 1, small 2, paid heldKept live one (λ (x : Entry). 1) (λ n. refl) (λ n. refl), paid heldKept live heldAmount amountOf (λ n. refl) (λ n. refl), paid heldReversed back one (λ (x : Entry). 1) (λ n. refl) (λ n. refl), paid heldReversed back heldAmount amountOf (λ n. refl) (λ n. refl), used whMetered meteredWh wh-metered, used costMetered meteredCost cost-metered, used whEstimated estimatedWh wh-estimated, used costHeld estimateCost cost-estimated))
         (λ f. rw f))
 
 -- The summary of an account that this software made is the ledger's of the same events.

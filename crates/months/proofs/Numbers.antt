@@ -4,13 +4,13 @@ use Prim.Native.Nat.{ℕ, _≤_}
 use native.Mathlib.Omega.{arith}
 use native.Mathlib.Numerals.{add-one}
 use mathlib.Core.Path.{_≡_, refl}
-use mathlib.Core.Bool.{Bool, true, false, cond, _&&_}
+use mathlib.Core.Bool.{Bool, true, false, cond, _&&_, and-false}
 use mathlib.Core.List.{List, [], _∷_}
 use Rattle.calendar.specs.Calendar.{total}
 use Rattle.terms.specs.declared.Terms.{Terms}
 use Rattle.ledger.specs.declared.Event.{Event}
 use Rattle.ledger.specs.Event.{isPay}
-use Rattle.ledger.specs.Entries.{Entry, Entries, count, sum, find, payments, payment, hasNumber}
+use Rattle.ledger.specs.Entries.{Entry, Entries, count, sum, sumOf, find, payments, payment, hasNumber}
 use Rattle.ledger.specs.Rules.{Ledger}
 use Rattle.ledger.specs.Ledger.{opening, moveOf, accepts, ledgerStep, ledgerAfter}
 use Rattle.ledger.proofs.Cases.{decide}
@@ -18,14 +18,14 @@ use Rattle.ledger.proofs.Accepted.{accepted-by}
 use Rattle.refinement.proofs.Fields.{payments-same, payments-one, payment-same, payment-old, payment-new}
 use Rattle.months.proofs.Sums.{total-same}
 
-module _ (q : Entry → ℕ → Bool) (f : Entry → ℕ) where
+module _ (r : Entry → Bool) (q : ℕ → Bool) (f : Entry → ℕ) where
   -- what payment n comes to
   abbrev part : Entries → ℕ → ℕ
-  part l n = cond (q (payment n l) n) (f (payment n l)) 0
+  part l n = cond (r (payment n l) && q n) (f (payment n l)) 0
 
   -- what the payments of L come to
   abbrev all : Entries → ℕ
-  all l = sum (λ (x : Entry) (before : Entries). cond (isPay (x .event) && q x (payments before)) (f x) 0) l
+  all l = sumOf (λ (x : Entry) (before : Entries). r x && (isPay (x .event) && q (payments before))) f l
 
   paid : (x : Entry) (l : Entries) → isPay (x .event) ≡ true → all l ≡ total (part l) (payments l) → all (x ∷ l) ≡ total (part (x ∷ l)) (payments (x ∷ l))
   unfolding sum total
@@ -37,7 +37,7 @@ module _ (q : Entry → ℕ → Bool) (f : Entry → ℕ) where
   unfolding sum
   unpaid x l t h =
       rw (payments-same (x .event) (x .part) l t)
-      (simp t (omega (arith, h, total-same (part (x ∷ l)) (part l) (payments l) (λ n b. rw (payment-same (x .event) (x .part) l n t)))))
+      (simp (t, and-false) (omega (arith, h, total-same (part (x ∷ l)) (part l) (payments l) (λ n b. rw (payment-same (x .event) (x .part) l n t)))))
 
   pub by-number : (l : Entries) → all l ≡ total (part l) (payments l)
   unfolding sum payments count total

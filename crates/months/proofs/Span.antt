@@ -54,7 +54,7 @@ module _ (o : Date) (m : ℕ) (r : Days) (g : MonthAnswer o m r) where
   some : (r .from ≡ r .to → ⊥) → anyDay (inMonthOf o m) 400 ≡ true
   some n = rw spans (any-some _ 400 (r .from) (omega (arith, g .order, g .limit)) (inside (r .from) (r .to) (r .from) (omega arith) (omega (arith, g .order))))
 
-  pub month-small : (r .from ≡ r .to → ⊥) → m ≤ 14
+  pub month-small : (r .from ≡ r .to → ⊥) → m < 15
   month-small n =
       let h : r .from < r .to = omega (arith, g .order) in
       decide (isDay o (r .from))

@@ -6,14 +6,14 @@ use mathlib.Core.List.{List, [], _∷_}
 use lib.ListN.{getD}
 use lib.Dec.{leb, eqb}
 use Rattle.calendar.specs.declared.Date.{Date}
-use Rattle.calendar.specs.Calendar.{dateOn, monthFrom, isDay, total}
+use Rattle.calendar.specs.Calendar.{dateOn, monthFrom, isDay, total, dayCount}
 use Rattle.calendar.specs.Days.{anyDay}
 use Rattle.terms.specs.declared.Terms.{Terms}
 use Rattle.ledger.specs.declared.Event.{Event}
 use Rattle.ledger.specs.declared.Counted.{Counted}
 use Rattle.ledger.specs.declared.Used.{Used}
 use Rattle.ledger.specs.declared.Summary.{Summary}
-use Rattle.ledger.specs.Months.{isReversed, averageOf, noSummary, ledgerSummary}
+use Rattle.ledger.specs.Months.{averageOf, noSummary, ledgerSummary}
 use Rattle.ledger.specs.Rules.{Ledger}
 use Rattle.account.specs.Record.{blankDay, noPayment, costHeld}
 use Rattle.moves.specs.Moves.{isAccount}
@@ -31,22 +31,28 @@ inMonthOf opened m d = isDay opened d && eqb (monthFrom opened (dateOn opened d)
 
 -- ---- payments
 
--- what f gives of a payment whose day has q, and of whose being reversed p holds
-abbrev pub ofPayment : (ℕ → Bool) → (Bool → Bool) → (Payment → ℕ) → Payment → ℕ
-ofPayment q p f x = cond (q (x .day) && p (x .reversed)) (f x) 0
+abbrev pub heldKept : Payment → Bool
+heldKept x = not (x .reversed)
+
+abbrev pub heldReversed : Payment → Bool
+heldReversed x = x .reversed
+
+-- what f gives of a payment that p picks and whose day has q
+abbrev pub ofPayment : (ℕ → Bool) → (Payment → Bool) → (Payment → ℕ) → Payment → ℕ
+ofPayment q p f x = cond (q (x .day) && p x) (f x) 0
 
 -- its sum over the first n payments
-unfoldable pub paymentsBy : (ℕ → Bool) → (Bool → Bool) → (Payment → ℕ) → List Payment → ℕ → ℕ
+unfoldable pub paymentsBy : (ℕ → Bool) → (Payment → Bool) → (Payment → ℕ) → List Payment → ℕ → ℕ
 paymentsBy q p f l n = total (λ (i : ℕ). ofPayment q p f (getD l i noPayment)) n
 
 abbrev pub one : Payment → ℕ
 one x = 1
 
-abbrev pub amountOf : Payment → ℕ
-amountOf x = x .amount
+abbrev pub heldAmount : Payment → ℕ
+heldAmount x = x .amount
 
-abbrev pub countedBy : (ℕ → Bool) → (Bool → Bool) → List Payment → ℕ → Counted
-countedBy q p l n = record { count = paymentsBy q p one l n; sum = paymentsBy q p amountOf l n }
+abbrev pub countedBy : (ℕ → Bool) → (Payment → Bool) → List Payment → ℕ → Counted
+countedBy q p l n = record { count = paymentsBy q p one l n; sum = paymentsBy q p heldAmount l n }
 
 -- ---- usage days
 
@@ -80,15 +86,15 @@ abbrev pub chargesOf : List ℕ → ℕ → List ℕ
 chargesOf l m = getD l (5 * m) 0 ∷ getD l (5 * m + 1) 0 ∷ getD l (5 * m + 2) 0 ∷ getD l (5 * m + 3) 0 ∷ getD l (5 * m + 4) 0 ∷ []
 
 -- No list of charges takes a month's sum past 2 ^ 40: a record that has one, of a kind that is in the average, is no account of this software's.
-abbrev pub most : ℕ
-most = 1099511627776
+abbrev pub maxCharges : ℕ
+maxCharges = 1099511627776
 
 -- ---- the summary
 
 -- the figures of the payments, the usage and the charges; kinds 1 and 2 are in the average
 abbrev pub figuresBy : Counted → Counted → Used → Used → List ℕ → Summary
 figuresBy kept reversed metered estimated charges =
-    cond (leb (getD charges 0 0) most && leb (getD charges 1 0) most)
+    cond (leb (getD charges 0 0) maxCharges && leb (getD charges 1 0) maxCharges)
     (record {
       code = 0;
       kept = kept;
@@ -104,12 +110,12 @@ figuresBy kept reversed metered estimated charges =
 -- over the days that have q
 unfoldable pub summaryBy : (ℕ → Bool) → Account → ℕ → Summary
 summaryBy q a m =
-    cond (anyDay q 400)
+    cond (anyDay q dayCount)
     (figuresBy
-    (countedBy q not (a .payments) (a .totals .count))
-    (countedBy q isReversed (a .payments) (a .totals .count))
-    (meteredBy q (a .days) 400)
-    (estimatedBy q (a .days) 400)
+    (countedBy q heldKept (a .payments) (a .totals .count))
+    (countedBy q heldReversed (a .payments) (a .totals .count))
+    (meteredBy q (a .days) dayCount)
+    (estimatedBy q (a .days) dayCount)
     (chargesOf (a .charges) m))
     (noSummary 3)
 

@@ -1,17 +1,16 @@
 -- What the private functions answer. No promise to others cites these.
 use Prim.Native.Nat.{ℕ, _+_, _*_, _≤_}
-use mathlib.Core.Bool.{Bool, not, _&&_}
+use mathlib.Core.Bool.{Bool, _&&_}
 use mathlib.Core.List.{List}
 use lib.Dec.{ltb, leb}
 use Rattle.ledger.specs.declared.Counted.{Counted}
 use Rattle.ledger.specs.declared.Used.{Used}
 use Rattle.ledger.specs.declared.Summary.{Summary}
-use Rattle.ledger.specs.Months.{isReversed}
 use Rattle.account.specs.Record.{costHeld}
 use Rattle.moves.specs.declared.Usage.{Usage}
 use Rattle.moves.specs.declared.Day.{Day}
 use Rattle.moves.specs.declared.Payment.{Payment}
-use Rattle.months.specs.Summary.{ofPayment, one, amountOf, countedBy, whMetered, costMetered, whEstimated, meteredBy, estimatedBy, figuresBy}
+use Rattle.months.specs.Summary.{heldKept, heldReversed, ofPayment, one, heldAmount, countedBy, whMetered, costMetered, whEstimated, meteredBy, estimatedBy, figuresBy}
 use Rattle.months.specs.declared.Paid.{Paid}
 use Rattle.months.specs.declared.Usages.{Usages}
 
@@ -24,14 +23,14 @@ span from to d = leb from d && ltb d to
 abbrev pub withAmount : Counted → ℕ → Counted
 withAmount c amount = record { count = c .count + 1; sum = c .sum + amount }
 
-abbrev pub withCounted : (ℕ → Bool) → (Bool → Bool) → Counted → Payment → Counted
-withCounted q p c x = record { count = c .count + ofPayment q p one x; sum = c .sum + ofPayment q p amountOf x }
+abbrev pub withCounted : (ℕ → Bool) → (Payment → Bool) → Counted → Payment → Counted
+withCounted q p c x = record { count = c .count + ofPayment q p one x; sum = c .sum + ofPayment q p heldAmount x }
 
 unfoldable pub withPayment : (ℕ → Bool) → Paid → Payment → Paid
-withPayment q s x = record { kept = withCounted q not (s .kept) x; reversed = withCounted q isReversed (s .reversed) x }
+withPayment q s x = record { kept = withCounted q heldKept (s .kept) x; reversed = withCounted q heldReversed (s .reversed) x }
 
 unfoldable pub paidBy : (ℕ → Bool) → List Payment → ℕ → Paid
-paidBy q l n = record { kept = countedBy q not l n; reversed = countedBy q isReversed l n }
+paidBy q l n = record { kept = countedBy q heldKept l n; reversed = countedBy q heldReversed l n }
 
 -- how far n payments can take them
 pub record PaidTo (n : ℕ) (s : Paid) : Type 0 where

@@ -8,7 +8,9 @@ use moves::Day;
 use moves::Payment;
 use moves::Usage;
 ghost use mathlib.Core.Path.{_≡_};
-ghost use Prim.Native.Nat.{ℕ, _+_, _≤_};
+ghost use Prim.Native.Nat.{ℕ, _+_, _≤_, _<_};
+ghost use Rattle.calendar.specs.Calendar.{finalDay, dayCount, monthCount};
+ghost use Rattle.ledger.specs.Rules.{maxPayments};
 ghost use Rattle.ledger.specs.Months.{noSummary, averageOf};
 ghost use Rattle.months.specs.Summary.{chargesOf, IsSummary};
 ghost use Rattle.months.specs.Work.{span, PaidTo, UsedTo, withAmount, withPayment, paidBy, withUsage, withDay, usedBy, figuresOf};
@@ -26,7 +28,7 @@ struct Usages {
 }
 
 // No list of charges takes a sum past this: a record that has one, of kind 1 or 2, is no account of this software's.
-const MOST: u64 = 1099511627776;
+const MAX_CHARGES: u64 = 1099511627776;
 
 // ---- payments
 
@@ -67,8 +69,13 @@ fn with_payment(s: Paid, p: Payment, from: u32, to: u32) -> Paid
     }
 }
 
-fn paid_in(payments: [Payment; 128], count: u32, from: u32, to: u32) -> Paid
-    requires { ⌜ count ≤ 128 ⌝ }
+fn paid_in(
+    payments: [Payment; ledger::MAX_PAYMENTS as usize],
+    count: u32,
+    from: u32,
+    to: u32,
+) -> Paid
+    requires { ⌜ count ≤ maxPayments ⌝ }
     ensures { λ r. ⌜ r ≡ paidBy (span from to) payments count ⌝ }
 {
     let mut s = Paid {
@@ -100,7 +107,7 @@ fn with_usage(u: Used, wh: u32, cost: u32) -> Used
 
 // With one usage day more.
 fn with_day(s: Usages, d: Day) -> Usages
-    requires { ⌜ UsedTo 399 s ⌝ }
+    requires { ⌜ UsedTo finalDay s ⌝ }
     ensures { λ r. ⌜ r ≡ withDay s (d .usage) ⌝ }
     ensures { λ r. ⌜ ((n : ℕ) → UsedTo n s → UsedTo (n + 1) r) ⌝ }
 {
@@ -120,10 +127,10 @@ fn with_day(s: Usages, d: Day) -> Usages
     }
 }
 
-fn used_in(days: [Day; 400], from: u32, to: u32) -> Usages
-    requires { ⌜ (from ≤ to) × (to ≤ 400) ⌝ }
-    ensures { λ r. ⌜ r ≡ usedBy (span from to) days 400 ⌝ }
-    ensures { λ r. ⌜ UsedTo 400 r ⌝ }
+fn used_in(days: [Day; calendar::DAY_COUNT as usize], from: u32, to: u32) -> Usages
+    requires { ⌜ (from ≤ to) × (to ≤ dayCount) ⌝ }
+    ensures { λ r. ⌜ r ≡ usedBy (span from to) days dayCount ⌝ }
+    ensures { λ r. ⌜ UsedTo dayCount r ⌝ }
 {
     let mut s = Usages {
         metered: Used { wh: 0, cost: 0 },
@@ -142,7 +149,7 @@ fn used_in(days: [Day; 400], from: u32, to: u32) -> Usages
 // ---- charges, and the month's figures
 
 fn charges_in(charges: [u64; 75], m: u32) -> [u64; 5]
-    requires { ⌜ m ≤ 14 ⌝ }
+    requires { ⌜ m < monthCount ⌝ }
     ensures { λ r. ⌜ r ≡ chargesOf charges m ⌝ }
 {
     let i = (5 * m) as usize;
@@ -182,15 +189,15 @@ fn nothing(code: u8) -> Summary
 }
 
 fn figures(p: Paid, u: Usages, charges: [u64; 5]) -> Summary
-    requires { ⌜ UsedTo 400 u ⌝ }
+    requires { ⌜ UsedTo dayCount u ⌝ }
     ensures { λ r. ⌜ r ≡ figuresOf p u charges ⌝ }
 {
     let delivery = charges[0];
     let tax = charges[1];
-    if delivery > MOST {
+    if delivery > MAX_CHARGES {
         return nothing(1);
     }
-    if tax > MOST {
+    if tax > MAX_CHARGES {
         return nothing(1);
     }
     let kept = p.kept;

@@ -12,25 +12,25 @@ use Rattle.terms.specs.declared.Terms.{Terms}
 use Rattle.ledger.specs.declared.Event.{Event}
 use Rattle.ledger.specs.Event.{inLimits}
 use Rattle.ledger.specs.Entries.{lastDay, payments, reversed, warned, usageDay, isBlank, isMetered, barred}
-use Rattle.ledger.specs.Rules.{Ledger, planAllowed, refusals, firstOf}
+use Rattle.ledger.specs.Rules.{Ledger, planAllowed, dayRefused, isFull, refusals, firstOf}
 use Rattle.ledger.specs.Ledger.{Move, Outcome, payMove, reverseMove, balanceMove, serviceMove, estimateMove, readMove, planMove, moveOf, moved, answer, refusal, ledgerStep}
 
 -- the event passes codes 2, 3 and 4
 pub record Passes (l : Ledger) (e : Event) : Type 0 where
-  pub days : (ltb (e .day) (lastDay (l .list)) || ltb 399 (e .day)) ≡ false
+  pub days : dayRefused l e ≡ false
   pub limits : inLimits e ≡ true
-  pub room : leb 4096 (length (l .list)) ≡ false
+  pub room : isFull l ≡ false
 
 module _ (t : Terms) (l : Ledger) (e : Event) where
-  pub code-2 : (ltb (e .day) (lastDay (l .list)) || ltb 399 (e .day)) ≡ true → refusal t l e ≡ 2
+  pub code-2 : dayRefused l e ≡ true → refusal t l e ≡ 2
   unfolding refusal refusals firstOf
   code-2 h = simp h
 
-  pub code-3 : (ltb (e .day) (lastDay (l .list)) || ltb 399 (e .day)) ≡ false → inLimits e ≡ false → refusal t l e ≡ 3
+  pub code-3 : dayRefused l e ≡ false → inLimits e ≡ false → refusal t l e ≡ 3
   unfolding refusal refusals firstOf
   code-3 h k = simp (h, k)
 
-  pub code-4 : (ltb (e .day) (lastDay (l .list)) || ltb 399 (e .day)) ≡ false → inLimits e ≡ true → leb 4096 (length (l .list)) ≡ true → refusal t l e ≡ 4
+  pub code-4 : dayRefused l e ≡ false → inLimits e ≡ true → isFull l ≡ true → refusal t l e ≡ 4
   unfolding refusal refusals firstOf
   code-4 h k f = simp (h, k, f)
 

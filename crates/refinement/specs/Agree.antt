@@ -6,13 +6,14 @@ use mathlib.Core.List.{List}
 use lib.ListN.{length, getD}
 use lib.Dec.{eqb}
 use lib.IntN.{ℤ, pos, _-ℤ_}
+use Rattle.calendar.specs.Calendar.{dayCount, monthCount}
 use Rattle.terms.specs.Terms.{validTerms}
 use Rattle.terms.specs.declared.Terms.{Terms}
 use Rattle.ledger.specs.declared.Event.{Event}
 use Rattle.ledger.specs.declared.Answer.{Answer}
-use Rattle.ledger.specs.Event.{isWarn}
+use Rattle.ledger.specs.Event.{isWarn, maxAmount, chargeKindCount}
 use Rattle.ledger.specs.Entries.{Entries, any, lastDay, payments, payment, reversed, UsageDay, blank, estimated, metered, usageDay, covered}
-use Rattle.ledger.specs.Rules.{Ledger}
+use Rattle.ledger.specs.Rules.{Ledger, maxEvents, maxPayments}
 use Rattle.ledger.specs.Ledger.{Outcome, opening, ledgerStep, ledgerAfter}
 use Rattle.ledger.specs.Calls.{ledgerCodes}
 use Rattle.ledger.specs.Invariant.{Invariant}
@@ -63,8 +64,8 @@ pub record Sums (t : Terms) (s : Totals) (l : Ledger) : Type 0 where
 
 -- how far a total can be after so many events
 pub record Bounds (s : Totals) : Type 0 where
-  pub full : s .events ≤ 4096
-  pub count : s .count ≤ 128
+  pub full : s .events ≤ maxEvents
+  pub count : s .count ≤ maxPayments
   pub credit : s .credit ≤ s .events * 50000000000
   pub debit : s .debit ≤ s .events * 10000000
   pub plan : s .plan ≤ s .events * 50000000000
@@ -73,20 +74,20 @@ pub record Bounds (s : Totals) : Type 0 where
 -- what is kept by payment, usage day, day, and month with charge kind
 pub record Kept (t : Terms) (a : Account) (l : Entries) : Type 0 where
   pub payments : (n : ℕ) → n < payments l → getD (a .payments) n noPayment ≡ paymentOf n l
-  pub amounts : (n : ℕ) → payment n l .event .amount ≤ 10000000
-  pub days : (u : ℕ) → u < 400 → getD (a .days) u blankDay .usage ≡ usageOf (usageDay t l u)
+  pub amounts : (n : ℕ) → payment n l .event .amount ≤ maxAmount
+  pub days : (u : ℕ) → u < dayCount → getD (a .days) u blankDay .usage ≡ usageOf (usageDay t l u)
   pub held : (u : ℕ) → costHeld (usageOf (usageDay t l u)) ≤ 10000000
-  pub marks : (d : ℕ) → d < 400 → getD (a .marks) d 0 ≡ marksOf d l
-  pub warned : (d : ℕ) → d < 400 → getD (a .warned) d 0 ≡ cond (warnedOn d l) 1 0
-  pub charges : (m k : ℕ) → m < 15 → k < 5 → getD (a .charges) (5 * m + k) 0 ≡ chargesIn t m (suc k) l
-  pub charged : (m k : ℕ) → chargesIn t m k l ≤ length l * 10000000
+  pub marks : (d : ℕ) → d < dayCount → getD (a .marks) d 0 ≡ marksOf d l
+  pub warned : (d : ℕ) → d < dayCount → getD (a .warned) d 0 ≡ cond (warnedOn d l) 1 0
+  pub charges : (m k : ℕ) → m < monthCount → k < chargeKindCount → getD (a .charges) (5 * m + k) 0 ≡ chargesIn t m (suc k) l
+  pub charged : (m k : ℕ) → chargesIn t m k l ≤ length l * maxAmount
 
 pub record Sizes (a : Account) : Type 0 where
-  pub payments : length (a .payments) ≡ 128
-  pub days : length (a .days) ≡ 400
-  pub marks : length (a .marks) ≡ 400
-  pub warned : length (a .warned) ≡ 400
-  pub charges : length (a .charges) ≡ 75
+  pub payments : length (a .payments) ≡ maxPayments
+  pub days : length (a .days) ≡ dayCount
+  pub marks : length (a .marks) ≡ dayCount
+  pub warned : length (a .warned) ≡ dayCount
+  pub charges : length (a .charges) ≡ monthCount * chargeKindCount
 
 pub record Agree (t : Terms) (a : Account) (l : Ledger) : Type 0 where
   pub terms : a .terms ≡ t

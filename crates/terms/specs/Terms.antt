@@ -9,15 +9,27 @@ use Rattle.terms.specs.declared.Terms.{Terms}
 abbrev pub within : ℕ → ℕ → ℕ → Bool
 within low high n = leb low n && leb n high
 
+abbrev pub maxPrice : ℕ
+maxPrice = 99999
+
+abbrev pub maxConnect : ℕ
+maxConnect = 7500
+
+abbrev pub maxCutoff : ℕ
+maxCutoff = 1000
+
+abbrev pub maxShare : ℕ
+maxShare = 50
+
 -- "`open`: a Gregorian date, years 2000 to 2099"; "`price`: 1 to 99,999"; "`connect`: 0 to 7,500";
 -- "`cutoff`: 0 to 1,000 and at most `connect`"; "`share`: 0 to 50".
 unfoldable pub validTerms : Terms → Bool
 validTerms t =
     opens (t .opened)
-    && (within 1 99999 (t .price)
-    && (leb (t .connect) 7500
-    && ((leb (t .cutoff) 1000 && leb (t .cutoff) (t .connect))
-    && leb (t .share) 50)))
+    && (within 1 maxPrice (t .price)
+    && (leb (t .connect) maxConnect
+    && ((leb (t .cutoff) maxCutoff && leb (t .cutoff) (t .connect))
+    && leb (t .share) maxShare)))
 
 -- "1: terms outside their limits"; 0 is within them.
 unfoldable pub termsCode : Terms → ℕ

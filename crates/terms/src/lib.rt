@@ -15,6 +15,14 @@ pub struct Terms {
     pub share: u32,
 }
 
+pub const MAX_PRICE: u32 = 99999;
+
+pub const MAX_CONNECT: u32 = 7500;
+
+pub const MAX_CUTOFF: u32 = 1000;
+
+pub const MAX_SHARE: u32 = 50;
+
 // 0, or 1 where the terms are outside their limits.
 pub fn check(t: Terms) -> u8
     ensures { λ r. ⌜ r ≡ termsCode t ⌝ }
@@ -26,19 +34,19 @@ pub fn check(t: Terms) -> u8
     if t.price < 1 {
         return 1;
     }
-    if t.price > 99999 {
+    if t.price > MAX_PRICE {
         return 1;
     }
-    if t.connect > 7500 {
+    if t.connect > MAX_CONNECT {
         return 1;
     }
-    if t.cutoff > 1000 {
+    if t.cutoff > MAX_CUTOFF {
         return 1;
     }
     if t.cutoff > t.connect {
         return 1;
     }
-    if t.share > 50 {
+    if t.share > MAX_SHARE {
         return 1;
     }
     0
