@@ -2,7 +2,10 @@
 use Prim.Native.Nat.{ℕ}
 use mathlib.Core.Bool.{false}
 use lib.ListN.{replicate}
+use Rattle.calendar.specs.Calendar.{dayCount}
 use Rattle.terms.specs.declared.Terms.{Terms}
+use Rattle.ledger.specs.Rules.{maxPayments}
+use Rattle.moves.specs.Moves.{chargePlaces}
 use Rattle.moves.specs.declared.Usage.{Usage}
 use Rattle.moves.specs.declared.Usage.the-variants.{Blank, Estimated, Metered}
 use Rattle.moves.specs.declared.Day.{Day}
@@ -20,11 +23,11 @@ unfoldable pub fresh : Terms → Account
 fresh t = record {
   terms = t;
   totals = record { credit = 0; debit = 0; plan = 0; standing = 0; count = 0; events = 0; last = 0; on = false };
-  days = replicate 400 blankDay;
-  marks = replicate 400 0;
-  warned = replicate 400 0;
-  payments = replicate 128 noPayment;
-  charges = replicate 75 0;
+  days = replicate dayCount blankDay;
+  marks = replicate dayCount 0;
+  warned = replicate dayCount 0;
+  payments = replicate maxPayments noPayment;
+  charges = replicate chargePlaces 0;
 }
 
 -- the cost of the estimate that stands on a day

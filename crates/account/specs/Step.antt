@@ -4,8 +4,10 @@ use mathlib.Core.Path.{_≡_}
 use mathlib.Core.Bool.{cond}
 use lib.ListN.{getD, set}
 use lib.Dec.{eqb}
+use Rattle.calendar.specs.Calendar.{dayCount}
 use Rattle.terms.specs.Terms.{termsCode}
 use Rattle.terms.specs.declared.Terms.{Terms}
+use Rattle.ledger.specs.Rules.{maxPayments}
 use Rattle.ledger.specs.declared.Event.{Event}
 use Rattle.marks.specs.Marks.{marked}
 use Rattle.moves.specs.Moves.{cellsBefore, moveOf}
@@ -24,13 +26,13 @@ IsOpened t r = r ≡ openOf t
 
 -- where the event's payment, its usage day and its day are looked at
 abbrev pub numberAt : Event → ℕ
-numberAt e = e .number % 128
+numberAt e = e .number % maxPayments
 
 abbrev pub usageAt : Event → ℕ
-usageAt e = e .usage % 400
+usageAt e = e .usage % dayCount
 
 abbrev pub dayAt : Event → ℕ
-dayAt e = e .day % 400
+dayAt e = e .day % dayCount
 
 -- the cells that the event may touch, as they are
 abbrev pub cellsOf : Account → Event → Move

@@ -1,6 +1,11 @@
 // The account record and its step by value.
 // It uses the terms, the marks, the moves and the ledger's event; its promises cite specs/Step.antt.
+use calendar::DAY_COUNT;
 use ledger::Event;
+use ledger::MAX_PAYMENTS;
+use marks::DayBytes;
+use moves::CHARGE_PLACES;
+use moves::Charges;
 use moves::Day;
 use moves::Payment;
 use moves::Totals;
@@ -10,18 +15,21 @@ ghost use mathlib.Core.Path.{_≡_};
 ghost use Rattle.account.specs.Step.{stepOf, IsOpened};
 ghost use Rattle.account.specs.Record.{fresh};
 
+pub type Days = [Day; DAY_COUNT as usize];
+
+pub type Payments = [Payment; MAX_PAYMENTS as usize];
+
 // One account: its terms, its totals, and what is kept by usage day, day, payment, and month with charge kind.
 pub struct Account {
     pub terms: Terms,
     pub totals: Totals,
-    pub days: [Day; 400],
+    pub days: Days,
     // one bit a mark kind
-    pub marks: [u8; 400],
+    pub marks: DayBytes,
     // 1 on the days of accepted warnings
-    pub warned: [u8; 400],
-    pub payments: [Payment; 128],
-    // month m's charges of kind k stand at 5 m + k - 1
-    pub charges: [u64; 75],
+    pub warned: DayBytes,
+    pub payments: Payments,
+    pub charges: Charges,
 }
 
 // The account after an event, and the answer to it.
@@ -54,16 +62,16 @@ fn empty(t: Terms) -> Account
         },
         days: [Day {
             usage: Usage::Blank,
-        }; 400],
-        marks: [0; 400],
-        warned: [0; 400],
+        }; DAY_COUNT as usize],
+        marks: [0; DAY_COUNT as usize],
+        warned: [0; DAY_COUNT as usize],
         payments: [Payment {
             day: 0,
             amount: 0,
             part: 0,
             reversed: false,
-        }; 128],
-        charges: [0; 75],
+        }; MAX_PAYMENTS as usize],
+        charges: [0; CHARGE_PLACES],
     }
 }
 
@@ -85,9 +93,9 @@ pub fn step(a: Account, e: Event) -> Posted
     let mut b = a;
     let t = b.terms;
     let s = b.totals;
-    let number = (e.number % 128) as usize;
+    let number = (e.number % MAX_PAYMENTS) as usize;
     let payment = b.payments[number];
-    let usage = (e.usage % 400) as usize;
+    let usage = (e.usage % DAY_COUNT) as usize;
     let day = b.days[usage];
     let m = moves::move_of(t, s, payment, day, &b.charges, &b.marks, &b.warned, e);
     if m.code != 0 {
@@ -104,7 +112,7 @@ pub fn step(a: Account, e: Event) -> Posted
     let used = m.day;
     b.days[usage] = used;
     b.charges[m.place as usize] = m.sum;
-    b.warned[(e.day % 400) as usize] = m.warned;
+    b.warned[(e.day % DAY_COUNT) as usize] = m.warned;
     marks::set(&mut b.marks, m.kind, m.from, m.to);
     Posted {
         account: b,

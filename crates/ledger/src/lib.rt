@@ -21,6 +21,8 @@ pub struct Event {
 // The largest amount, in cents, and the largest reading.
 pub const MAX_AMOUNT: u32 = 10000000;
 
+pub const CHARGE_KINDS: u32 = 5;
+
 pub const MAX_WH: u32 = 9999999;
 
 // "Each accepted event counts towards 4,096."; "At most 128 payments."; a plan is required from B of -5,000 down.

@@ -5,12 +5,13 @@ use mathlib.Core.Bool.{Bool, true, false, cond, not, _&&_, _||_}
 use mathlib.Core.List.{List}
 use lib.ListN.{getD}
 use lib.Dec.{ltb, leb, eqb}
-use Rattle.calendar.specs.Calendar.{weekdayOn, monthOn}
+use Rattle.calendar.specs.Calendar.{finalDay, dayCount, monthCount, weekdayOn, monthOn}
 use Rattle.tariff.specs.Tariff.{costOf}
 use Rattle.marks.specs.Marks.{barringOn, latestWarning, weatherNear, isMissing}
 use Rattle.terms.specs.Terms.{termsCode}
 use Rattle.terms.specs.declared.Terms.{Terms}
-use Rattle.ledger.specs.Event.{inLimits}
+use Rattle.ledger.specs.Event.{inLimits, chargeKindCount}
+use Rattle.ledger.specs.Rules.{maxEvents, maxPayments, requiredDebt}
 use Rattle.ledger.specs.declared.Event.{Event}
 use Rattle.moves.specs.declared.Usage.{Usage}
 use Rattle.moves.specs.declared.Usage.the-variants.{Blank, Estimated, Metered}
@@ -19,7 +20,7 @@ use Rattle.moves.specs.declared.Payment.{Payment}
 use Rattle.moves.specs.declared.Totals.{Totals}
 use Rattle.moves.specs.declared.Move.{Move}
 
--- No list of events takes a total past 2 ^ 60, or the payments past 128: a record that has is no account of this software's, nor is one whose
+-- No list of events takes a total past 2 ^ 60, or the payments past their limit: a record that has is no account of this software's, nor is one whose
 -- terms are outside their limits.
 abbrev pub maxTotal : ℕ
 maxTotal = 1152921504606846976
@@ -27,13 +28,13 @@ maxTotal = 1152921504606846976
 unfoldable pub isAccount : Terms → Totals → Bool
 isAccount t s =
     eqb (termsCode t) 0
-    && (leb (s .credit) maxTotal && (leb (s .debit) maxTotal && (leb (s .plan) maxTotal && (leb (s .standing) maxTotal && leb (s .count) 128))))
+    && (leb (s .credit) maxTotal && (leb (s .debit) maxTotal && (leb (s .plan) maxTotal && (leb (s .standing) maxTotal && leb (s .count) maxPayments))))
 
 -- 1 for no account; 2; 3; 4; else 0
 unfoldable pub earlyCode : Terms → Totals → Event → ℕ
 earlyCode t s e =
     cond (isAccount t s)
-    (cond (ltb (e .day) (s .last) || ltb 399 (e .day)) 2 (cond (inLimits e) (cond (leb 4096 (s .events)) 4 0) 3))
+    (cond (ltb (e .day) (s .last) || ltb finalDay (e .day)) 2 (cond (inLimits e) (cond (leb maxEvents (s .events)) 4 0) 3))
     1
 
 -- ---- the totals after an event: what changes, and what stays
@@ -123,7 +124,7 @@ partIn t s e = min (s .plan) (e .amount * t .share / 100)
 
 unfoldable pub payOf : Terms → Move → Event → Move
 payOf t m e =
-    cond (leb 128 (m .totals .count)) (refusing m 5)
+    cond (leb maxPayments (m .totals .count)) (refusing m 5)
     (accepting
     (paying m (m .totals .count) (record { day = e .day; amount = e .amount; part = partIn t (m .totals) e; reversed = false }))
     (withCount
@@ -148,9 +149,13 @@ reverseOf t m e =
 unfoldable pub creditOf : Terms → Move → Event → Move
 creditOf t m e = accepting m (credited (tallied (m .totals) (e .day)) (e .amount)) 0
 
+-- a place for each month and charge kind
+abbrev pub chargePlaces : ℕ
+chargePlaces = monthCount * chargeKindCount
+
 -- where the charges of the event's month and kind are summed
 abbrev pub chargePlace : Terms → Event → ℕ
-chargePlace t e = 5 * monthOn (t .opened) (e .day) + (e .kind - 1)
+chargePlace t e = chargeKindCount * monthOn (t .opened) (e .day) + (e .kind - 1)
 
 unfoldable pub chargeOf : Terms → Move → List ℕ → Event → Move
 chargeOf t m charges e =
@@ -212,7 +217,7 @@ deferredOf t m e =
 abbrev pub planConditionMet : Terms → Totals → List ℕ → Event → Bool
 planConditionMet t s marks e =
     cond (eqb (e .kind) 1)
-    (leb (s .credit + 5000) (s .debit)
+    (leb (s .credit + requiredDebt) (s .debit)
     && weatherNear marks (weekdayOn (t .opened) (e .day)) (e .day))
     (ltb (s .credit) (s .debit))
 
@@ -260,10 +265,10 @@ moveOf t m charges marks warned e =
 -- Before an event: no answer yet, and the cells that it may change as they are. A number past the payments, or a day past the account's, is
 -- looked at by its remainder: where the sort names the field the event is refused, else the cell is written back as it was.
 unfoldable pub cellsBefore : Totals → Payment → Day → List ℕ → List ℕ → Event → Move
-cellsBefore s payment day charges warned e = move 0 0 s (e .number % 128) payment day 0 (getD charges 0 0) (getD warned (e .day % 400) 0) 0 1 0
+cellsBefore s payment day charges warned e = move 0 0 s (e .number % maxPayments) payment day 0 (getD charges 0 0) (getD warned (e .day % dayCount) 0) 0 1 0
 
 -- What `move_of` promises: the move, and that the places it names are there.
 pub record IsMove (t : Terms) (s : Totals) (payment : Payment) (day : Day) (charges marks warned : List ℕ) (e : Event) (m : Move) : Type 0 where
   pub move : m ≡ moveOf t (cellsBefore s payment day charges warned e) charges marks warned e
-  pub number : m .number < 128
-  pub place : m .place < 75
+  pub number : m .number < maxPayments
+  pub place : m .place < chargePlaces

@@ -1,20 +1,22 @@
 // Charges, summed by month and kind.
+use super::Charges;
 use super::MAX_TOTAL;
 use super::Move;
 use super::accept;
 use super::refuse;
+use ledger::CHARGE_KINDS;
 use ledger::Event;
 use terms::Terms;
 ghost use mathlib.Core.Path.{_≡_};
 ghost use Rattle.moves.specs.Moves.{earlyCode, chargeOf};
 
-pub(crate) fn charge(t: Terms, mut m: Move, charges: &[u64; 75], e: Event) -> Move
+pub(crate) fn charge(t: Terms, mut m: Move, charges: &Charges, e: Event) -> Move
     requires { ⌜ (earlyCode t (m .totals) e ≡ 0) × (e .sort ≡ 4) ⌝ }
     ensures { λ r. ⌜ r ≡ chargeOf t m (now (charges .entry)) e ⌝ }
 {
     let opened = t.opened;
     let month = calendar::month_of(opened, e.day);
-    let place = 5 * month + (e.kind - 1);
+    let place = CHARGE_KINDS * month + (e.kind - 1);
     let i = place as usize;
     let sum = charges[i];
     if sum > MAX_TOTAL {

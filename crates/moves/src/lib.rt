@@ -1,9 +1,13 @@
 // What one event does to the totals and to the cells of the record that it may change, by its sort, and what it is answered.
 // It uses the calendar, the tariff, the marks, the terms, the limits and the ledger's event. Its promises cite specs/Moves.antt.
+use calendar::DAY_COUNT;
 use ledger::Event;
+use ledger::MAX_PAYMENTS;
+use marks::DayBytes;
 use terms::Terms;
 ghost use mathlib.Core.Path.{_≡_};
 ghost use Prim.Native.Nat.{_<_};
+ghost use Rattle.ledger.specs.Rules.{maxEvents};
 ghost use Rattle.moves.specs.Moves.{isAccount, tallied, accepting, refusing, earlyCode, bySort, IsMove};
 
 mod charges;
@@ -69,6 +73,11 @@ pub struct Move {
     pub to: u32,
 }
 
+// A place for each month and charge kind: month m's charges of kind k are summed at 5 m + k - 1.
+pub const CHARGE_PLACES: usize = (calendar::MONTH_COUNT * ledger::CHARGE_KINDS) as usize;
+
+pub type Charges = [u64; CHARGE_PLACES];
+
 // No account's total passes 2 ^ 60.
 pub const MAX_TOTAL: u64 = 1152921504606846976;
 
@@ -91,7 +100,7 @@ pub fn is_account(t: Terms, s: Totals) -> bool
     if s.standing > MAX_TOTAL {
         return false;
     }
-    s.count <= 128
+    s.count <= MAX_PAYMENTS
 }
 
 fn refuse(mut m: Move, k: u8) -> Move
@@ -104,7 +113,7 @@ fn refuse(mut m: Move, k: u8) -> Move
 
 // The move of an accepted event of that day, with the value: these totals, with one more event.
 fn accept(mut m: Move, mut s: Totals, day: u32, value: u64) -> Move
-    requires { ⌜ s .events < 4096 ⌝ }
+    requires { ⌜ s .events < maxEvents ⌝ }
     ensures { λ r. ⌜ r ≡ accepting m (tallied s day) value ⌝ }
 {
     s.events = s.events + 1;
@@ -119,9 +128,9 @@ fn accept(mut m: Move, mut s: Totals, day: u32, value: u64) -> Move
 fn by_sort<'a>(
     t: Terms,
     m: Move,
-    charges: &'a [u64; 75],
-    marks: &'a [u8; 400],
-    warned: &'a [u8; 400],
+    charges: &'a Charges,
+    marks: &'a DayBytes,
+    warned: &'a DayBytes,
     e: Event,
 ) -> Move
     requires { ⌜ earlyCode t (m .totals) e ≡ 0 ⌝ }
@@ -152,19 +161,19 @@ pub fn move_of<'a>(
     s: Totals,
     payment: Payment,
     day: Day,
-    charges: &'a [u64; 75],
-    marks: &'a [u8; 400],
-    warned: &'a [u8; 400],
+    charges: &'a Charges,
+    marks: &'a DayBytes,
+    warned: &'a DayBytes,
     e: Event,
 ) -> Move
     ensures { λ r. ⌜ IsMove t s payment day (now (charges .entry)) (now (marks .entry)) (now (warned .entry)) e r ⌝ }
 {
-    let at = (e.day % 400) as usize;
+    let at = (e.day % DAY_COUNT) as usize;
     let before = Move {
         code: 0,
         value: 0,
         totals: s,
-        number: e.number % 128,
+        number: e.number % MAX_PAYMENTS,
         payment,
         day,
         place: 0,

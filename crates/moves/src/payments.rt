@@ -4,10 +4,12 @@ use super::Payment;
 use super::accept;
 use super::refuse;
 use ledger::Event;
+use ledger::MAX_PAYMENTS;
 use terms::Terms;
 ghost use mathlib.Core.Path.{_≡_};
 ghost use Prim.Native.Nat.{_-_, _*_, _/_, _<_, _≤_, min};
 ghost use Rattle.terms.specs.declared.Terms.{Terms};
+ghost use Rattle.ledger.specs.Rules.{maxEvents};
 ghost use Rattle.moves.specs.Moves.{maxTotal, tallied, credited, accepting, earlyCode, payOf, reverseOf};
 
 // The smaller of the unpaid plan and the share of the amount, rounded down.
@@ -38,7 +40,7 @@ pub(crate) fn pay(t: Terms, mut m: Move, e: Event) -> Move
 {
     let s = m.totals;
     let number = s.count;
-    if number >= 128 {
+    if number >= MAX_PAYMENTS {
         return refuse(m, 5);
     }
     let amount = e.amount;
@@ -59,7 +61,7 @@ pub(crate) fn pay(t: Terms, mut m: Move, e: Event) -> Move
 }
 
 pub(crate) fn reverse(mut m: Move, e: Event) -> Move
-    requires { ⌜ (m .totals .events < 4096) × (m .totals .debit ≤ maxTotal) × (m .totals .plan ≤ maxTotal) ⌝ }
+    requires { ⌜ (m .totals .events < maxEvents) × (m .totals .debit ≤ maxTotal) × (m .totals .plan ≤ maxTotal) ⌝ }
     ensures { λ r. ⌜ ((t : Terms) → r ≡ reverseOf t m e) ⌝ }
 {
     if e.number >= m.totals.count {
@@ -79,7 +81,7 @@ pub(crate) fn reverse(mut m: Move, e: Event) -> Move
 }
 
 pub(crate) fn credit(m: Move, day: u32, amount: u32) -> Move
-    requires { ⌜ (m .totals .events < 4096) × (m .totals .credit ≤ maxTotal) ⌝ }
+    requires { ⌜ (m .totals .events < maxEvents) × (m .totals .credit ≤ maxTotal) ⌝ }
     ensures { λ r. ⌜ r ≡ accepting m (credited (tallied (m .totals) day) amount) 0 ⌝ }
 {
     let mut n = m.totals;

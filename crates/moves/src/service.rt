@@ -4,14 +4,17 @@ use super::Totals;
 use super::accept;
 use super::refuse;
 use ledger::Event;
+use ledger::REQUIRED_DEBT;
+use marks::DayBytes;
 use marks::Found;
 use terms::Terms;
 ghost use mathlib.Core.Path.{_≡_};
 ghost use Prim.Native.Nat.{_<_, _≤_};
+ghost use Rattle.ledger.specs.Rules.{maxEvents};
 ghost use Rattle.moves.specs.Moves.{maxTotal, tallied, withService, warning, marking, accepting, earlyCode, planConditionMet, planOf, disconnectOf, connectOf};
 
 pub(crate) fn warn(mut m: Move, day: u32) -> Move
-    requires { ⌜ m .totals .events < 4096 ⌝ }
+    requires { ⌜ m .totals .events < maxEvents ⌝ }
     ensures { λ r. ⌜ r ≡ accepting (warning m) (tallied (m .totals) day) 0 ⌝ }
 {
     let s = m.totals;
@@ -20,7 +23,7 @@ pub(crate) fn warn(mut m: Move, day: u32) -> Move
 }
 
 pub(crate) fn mark(mut m: Move, e: Event) -> Move
-    requires { ⌜ m .totals .events < 4096 ⌝ }
+    requires { ⌜ m .totals .events < maxEvents ⌝ }
     ensures { λ r. ⌜ r ≡ accepting (marking m (e .kind) (e .from) (e .to)) (tallied (m .totals) (e .day)) 0 ⌝ }
 {
     let s = m.totals;
@@ -31,21 +34,21 @@ pub(crate) fn mark(mut m: Move, e: Event) -> Move
 }
 
 // Whether the plan kind's condition holds.
-fn allowed(t: Terms, s: Totals, marks: &[u8; 400], e: Event) -> bool
+fn allowed(t: Terms, s: Totals, marks: &DayBytes, e: Event) -> bool
     requires { ⌜ s .credit ≤ maxTotal ⌝ }
     ensures { λ r. ⌜ r ≡ planConditionMet t s (now (marks .entry)) e ⌝ }
 {
     if e.kind != 1 {
         return s.credit < s.debit;
     }
-    if s.debit < s.credit + 5000 {
+    if s.debit < s.credit + REQUIRED_DEBT {
         return false;
     }
     let opened = t.opened;
     marks::weather_near(marks, calendar::weekday_of(opened, e.day), e.day)
 }
 
-pub(crate) fn plan(t: Terms, m: Move, marks: &[u8; 400], e: Event) -> Move
+pub(crate) fn plan(t: Terms, m: Move, marks: &DayBytes, e: Event) -> Move
     requires { ⌜ (earlyCode t (m .totals) e ≡ 0) × (e .sort ≡ 9) ⌝ }
     ensures { λ r. ⌜ r ≡ planOf t m (now (marks .entry)) e ⌝ }
 {
@@ -65,7 +68,7 @@ pub(crate) fn plan(t: Terms, m: Move, marks: &[u8; 400], e: Event) -> Move
 
 // The move of an accepted order: service on or off.
 fn served(m: Move, day: u32, on: bool) -> Move
-    requires { ⌜ m .totals .events < 4096 ⌝ }
+    requires { ⌜ m .totals .events < maxEvents ⌝ }
     ensures { λ r. ⌜ r ≡ accepting m (withService (tallied (m .totals) day) on) 0 ⌝ }
 {
     let mut n = m.totals;
@@ -73,7 +76,7 @@ fn served(m: Move, day: u32, on: bool) -> Move
     accept(m, n, day, 0)
 }
 
-pub(crate) fn disconnect(t: Terms, m: Move, marks: &[u8; 400], warned: &[u8; 400], e: Event) -> Move
+pub(crate) fn disconnect(t: Terms, m: Move, marks: &DayBytes, warned: &DayBytes, e: Event) -> Move
     requires { ⌜ (earlyCode t (m .totals) e ≡ 0) × (e .sort ≡ 10) ⌝ }
     ensures { λ r. ⌜ r ≡ disconnectOf t m (now (marks .entry)) (now (warned .entry)) e ⌝ }
 {
