@@ -37,25 +37,17 @@ positive (negsuc n) t = tt
 negated : (z : ℤ) → T (nonNeg z) → SFits w64 z → T (nonNeg (toZ w64 (ofZ w64 z))) × Fits w64 (natAbs (toZ w64 (ofZ w64 z)))
 negated z p f = (subst (λ (y : ℤ). T (nonNeg y)) (sym (toZ-ofZ w64 z f)) p, fits-natAbs {w = w64} {w′ = w64} tt (back z f))
 
-cast-result : tie.Need-cast-result
-cast-result c = up _ (back _ (c .before .fits .n)) (c .if1 .taken)
-
-returns : tie.Need-returns
-returns c = search needs
-
-sub-result : tie.Need-sub-result
-sub-result c = down (toZ w64 (ofZ w64 (c .before .before .args .n))) (c .before .if1 .left) (c .if2 .taken)
-
 cast-result-2 : tie.Need-cast-result-2
 cast-result-2 c =
     let z = toZ w64 (ofZ w64 (c .before .before .args .n)) in
     negated (pos 0 -ℤ z) (positive z (c .before .if1 .left)) (down z (c .before .if1 .left) (c .if2 .taken))
 
-returns-2 : tie.Need-returns-2
-returns-2 c = search needs
-
-returns-3 : tie.Need-returns-3
-returns-3 c = search needs
-
 pub size-of-spec : {M : Type 1} → statement M
-size-of-spec = tie.close (tie.spec cast-result returns sub-result cast-result-2 returns-2 returns-3)
+size-of-spec =
+    tie.close
+    (tie.spec
+    (λ c. up _ (back _ (c .before .fits .n)) (c .if1 .taken))
+    (search needs)
+    (λ c. down (toZ w64 (ofZ w64 (c .before .before .args .n))) (c .before .if1 .left) (c .if2 .taken))
+    cast-result-2
+    (search needs) (search needs))
