@@ -1,14 +1,13 @@
 //! Times the Rattle head (libhead.a) and the fast Rust account on the same inputs, in one process. See bench/run.sh.
 //!
 //! measure times [samples]            the tables (a), (b), (c in one process), (d)
-//! measure text LIMIT                 the event text of the measurements, on standard output
+//! measure text [LIMIT]               the event text of the measurements, on standard output
 //! measure row                        the row of the measurements, as numbers (for stack.c)
 
-mod head;
 mod sorts;
 
 use fast::account::*;
-use fast::mix;
+use fast::{head, mix};
 use std::hint::black_box;
 use std::time::Instant;
 
@@ -84,8 +83,14 @@ fn time(f: impl FnOnce()) -> f64 {
     clock() - start
 }
 
+fn head_open(terms: &Terms) -> head::Account {
+    let mut account = head::Account([0; head::ACCOUNT_SIZE]);
+    assert_eq!(account.open(*terms), 0);
+    account
+}
+
 /// A row on a fresh account, by each side.
-fn head_row<'a>(fresh: &'a head::Image, row: &'a [Event]) -> Box<dyn FnMut() -> f64 + 'a> {
+fn head_row<'a>(fresh: &'a head::Account, row: &'a [Event]) -> Box<dyn FnMut() -> f64 + 'a> {
     let mut codes = vec![0; row.len()];
     Box::new(move || {
         let mut account = Box::new(*fresh);
@@ -107,18 +112,18 @@ fn fast_row<'a>(fresh: &'a Account, row: &'a [Event]) -> Box<dyn FnMut() -> f64 
 
 /// Both sides answer alike; the codes.
 fn agreed(terms: &Terms, row: &[Event]) -> Vec<u8> {
-    let mut image = head::open(terms);
+    let mut image = head_open(terms);
     let mut account = Account::open(terms).unwrap();
     let mut codes = vec![0; row.len()];
     for (e, code) in row.iter().zip(&mut codes) {
-        let (a, b) = (image.post(e), account.post(e));
+        let (a, b) = (image.post(*e), account.post(e));
         assert_eq!((a.code, a.value), (b.code, b.value), "{e:?}");
         *code = a.code;
     }
     let r = image.readings();
     assert_eq!((r.balance, r.settled, r.plan, r.estimates), (account.balance(), account.settled(), account.plan(), account.estimates()));
     let (mut a, mut b) = (vec![0; row.len()], vec![0; row.len()]);
-    assert_eq!(head::open(terms).row(row, &mut a), 0);
+    assert_eq!(head_open(terms).row(row, &mut a), 0);
     assert_eq!(Account::open(terms).unwrap().row(row, &mut b), 0);
     assert!(a == codes && b == codes);
     codes
@@ -170,7 +175,7 @@ fn tell_mix(what: &str, row: &[Event], codes: &[u8]) {
 }
 
 fn one_post(samples: usize, row: &[Event]) {
-    let fresh = head::open(&mix::TERMS);
+    let fresh = head_open(&mix::TERMS);
     let fast = Account::open(&mix::TERMS).unwrap();
     let (m, n) = (ROW / 4, ROW);
     let mut singly = Box::new(fresh);
@@ -187,7 +192,7 @@ fn one_post(samples: usize, row: &[Event]) {
             *singly = fresh;
             time(|| {
                 for e in row {
-                    black_box(singly.post(black_box(e)));
+                    black_box(singly.post(*black_box(e)));
                 }
             }) / ROW as f64
         }),
@@ -236,7 +241,7 @@ fn one_post(samples: usize, row: &[Event]) {
         let codes = agreed(&case.terms, &whole);
         assert!(codes[..case.before.len()].iter().all(|&c| c == 0), "{}", case.name);
         assert!(codes[case.before.len()..].iter().all(|&c| c == case.code), "{}", case.name);
-        let fresh = head::open(&case.terms);
+        let fresh = head_open(&case.terms);
         let fast = Account::open(&case.terms).unwrap();
         let mut tasks = vec![
             head_row(&fresh, &case.before),
@@ -252,7 +257,7 @@ fn one_post(samples: usize, row: &[Event]) {
 }
 
 fn whole_row(samples: usize, row: &[Event]) {
-    let fresh = head::open(&mix::TERMS);
+    let fresh = head_open(&mix::TERMS);
     let fast = Account::open(&mix::TERMS).unwrap();
     let times = in_turn(samples, &mut [head_row(&fresh, row), fast_row(&fast, row)]);
     println!("\n## (b) A row of {ROW} events on a fresh account\n");
@@ -265,8 +270,8 @@ fn whole_row(samples: usize, row: &[Event]) {
 }
 
 fn transcripts(samples: usize) {
-    let (text, events) = mix::text(SEED, &mix::TERMS, 65_536);
-    let (mut a, mut b) = (vec![0; 655_360], vec![0; 655_360]);
+    let (text, events) = mix::text(SEED, &mix::TERMS, head::TEXT_MOST);
+    let (mut a, mut b) = (vec![0; head::TRANSCRIPT_ROOM], vec![0; head::TRANSCRIPT_ROOM]);
     let len = head::transcript(&text, &mut a);
     assert_eq!(len, fast::text::transcript(&text, &mut b));
     assert!(a[..len] == b[..len]);
@@ -311,7 +316,7 @@ fn spread(v: &[f64]) -> (f64, f64, f64, f64) {
 fn kth_event(samples: usize, mixed: &[Event]) {
     const BUCKET: usize = 256;
     let credits = vec![Event { sort: CREDIT, day: 3, amount: 100, ..Event::default() }; ROW];
-    let fresh = head::open(&mix::TERMS);
+    let fresh = head_open(&mix::TERMS);
     let fast = Account::open(&mix::TERMS).unwrap();
     println!("\n## (d) The k-th event, k from 1 to {ROW}: {} buckets of {BUCKET}\n", ROW / BUCKET);
     println!(
@@ -357,7 +362,7 @@ fn kth_event(samples: usize, mixed: &[Event]) {
                 for (e, times) in row.iter().zip(&mut each) {
                     let start = tsc();
                     if rattle {
-                        black_box(image.post(black_box(e)));
+                        black_box(image.post(*black_box(e)));
                     } else {
                         black_box(account.post(black_box(e)));
                     }
@@ -378,7 +383,7 @@ fn times(samples: usize) {
     println!("{samples} runs each, both sides in turn in one process on one core; the thread's own time.\n");
     tell_mix("The mix, row", &row, &codes);
     println!("Sizes: image (prepay_account) {} bytes, Rattle record {RECORD}, Rust record {}, event {}.",
-        size_of::<head::Image>(), size_of::<Account>(), size_of::<Event>());
+        head::ACCOUNT_SIZE, size_of::<Account>(), size_of::<Event>());
     one_post(samples, &row);
     whole_row(samples, &row);
     transcripts(samples);
@@ -391,7 +396,7 @@ fn main() {
     let number = |i: usize, or: usize| args.get(i).map_or(or, |s| s.parse().expect("a number"));
     match args.get(1).map(String::as_str) {
         Some("times") => times(number(2, 101)),
-        Some("text") => std::io::stdout().write_all(&mix::text(SEED, &mix::TERMS, number(2, 65_536)).0).unwrap(),
+        Some("text") => std::io::stdout().write_all(&mix::text(SEED, &mix::TERMS, number(2, head::TEXT_MOST)).0).unwrap(),
         Some("row") => {
             for e in mix::row(SEED, ROW) {
                 println!("{} {} {} {} {} {} {} {} {}", e.sort, e.day, e.amount, e.number, e.kind, e.usage, e.wh, e.from, e.to);

@@ -1,17 +1,9 @@
 //! The library under test, with guard bytes around everything lent to it.
 
-pub use crate::interface::*;
-use std::mem::size_of;
+use crate::head::{self, Account, Answer, Event, Figures, Reading, Terms, ACCOUNT_SIZE, STATEMENT_ROOM, TRANSCRIPT_ROOM};
 
-extern "C" {
-    fn prepay_transcript(text: *const u8, text_len: usize, out: *mut u8, out_len: usize) -> usize;
-    fn prepay_statement(text: *const u8, text_len: usize, out: *mut u8, out_len: usize) -> usize;
-    fn prepay_open(account: *mut Account, terms: Terms) -> u8;
-    fn prepay_post(account: *mut Account, event: Event) -> Answer;
-    fn prepay_row(account: *mut Account, row: *const Event, count: usize, codes: *mut u8, codes_len: usize) -> u8;
-    fn prepay_readings(account: *const Account) -> Reading;
-    fn prepay_summary(account: *const Account, month: u32) -> Figures;
-}
+/// The reference's limit, from document 01, is the header's.
+const _: () = assert!(head::TEXT_MOST == reference::text::MOST_BYTES);
 
 const GUARD: usize = 64;
 const AROUND: u8 = 0xA5;
@@ -26,11 +18,7 @@ pub struct Lent {
 
 impl Lent {
     pub fn new() -> Box<Lent> {
-        // SAFETY: numbers alone.
-        let mut lent: Box<Lent> = unsafe { Box::new(std::mem::zeroed()) };
-        lent.before = [AROUND; GUARD];
-        lent.after = [AROUND; GUARD];
-        lent
+        Box::new(Lent { before: [AROUND; GUARD], account: Account([0; ACCOUNT_SIZE]), after: [AROUND; GUARD] })
     }
 
     pub fn guards_stand(&self) -> bool {
@@ -38,23 +26,17 @@ impl Lent {
     }
 
     /// The bytes of the account.
-    pub fn fields(&self) -> Vec<u8> {
-        // SAFETY: as many bytes as the account has.
-        let bytes = unsafe { std::slice::from_raw_parts(&self.account as *const Account as *const u8, size_of::<Account>()) };
-        bytes.to_vec()
+    pub fn bytes(&self) -> Vec<u8> {
+        self.account.0.to_vec()
     }
 
     pub fn open(&mut self, terms: Terms, fill: u8) -> u8 {
-        // SAFETY: numbers alone; the call's own memory.
-        unsafe {
-            (&mut self.account as *mut Account).write_bytes(fill, 1);
-            prepay_open(&mut self.account, terms)
-        }
+        self.account.0.fill(fill);
+        self.account.open(terms)
     }
 
     pub fn post(&mut self, event: Event) -> Answer {
-        // SAFETY: an account.
-        unsafe { prepay_post(&mut self.account, event) }
+        self.account.post(event)
     }
 
     /// The row's answer and the lent buffer afterwards, or what else was written.
@@ -66,10 +48,7 @@ impl Lent {
         events.push(trap);
         let as_lent = events.clone();
         let mut codes = vec![fill; GUARD + buffer + GUARD];
-        // SAFETY: both lie inside their vectors.
-        let answer = unsafe {
-            prepay_row(&mut self.account, events.as_ptr().add(1), row.len(), codes.as_mut_ptr().add(GUARD), buffer)
-        };
+        let answer = self.account.row(&events[1..1 + row.len()], &mut codes[GUARD..GUARD + buffer]);
         if events != as_lent {
             return Err("the row itself was written".into());
         }
@@ -80,13 +59,11 @@ impl Lent {
     }
 
     pub fn readings(&self) -> Reading {
-        // SAFETY: an account.
-        unsafe { prepay_readings(&self.account) }
+        self.account.readings()
     }
 
     pub fn summary(&self, month: u32) -> Figures {
-        // SAFETY: an account.
-        unsafe { prepay_summary(&self.account, month) }
+        self.account.summary(month)
     }
 }
 
@@ -95,6 +72,16 @@ impl Lent {
 pub enum Printer {
     Transcript,
     Statement,
+}
+
+impl Printer {
+    /// What its output buffer must hold.
+    pub fn room(self) -> usize {
+        match self {
+            Printer::Transcript => TRANSCRIPT_ROOM,
+            Printer::Statement => STATEMENT_ROOM,
+        }
+    }
 }
 
 /// Room for the answers, filled anew after each call.
@@ -114,11 +101,7 @@ impl Room {
     /// What the call prints for the text with an output buffer `more` bytes longer than
     /// it must be; or what was wrong with its memory.
     pub fn print(&mut self, printer: Printer, text: &[u8], more: usize) -> Result<Vec<u8>, String> {
-        let room = match printer {
-            Printer::Transcript => TRANSCRIPT_ROOM,
-            Printer::Statement => STATEMENT_ROOM,
-        };
-        let out_len = room + more.min(2 * GUARD);
+        let out_len = printer.room() + more.min(2 * GUARD);
         let n = self.call(printer, text, out_len);
         if n > out_len {
             self.bytes.fill(FILL);
@@ -156,10 +139,9 @@ impl Room {
     fn call(&mut self, printer: Printer, text: &[u8], out_len: usize) -> usize {
         let lent = [text, BEHIND].concat();
         let call = match printer {
-            Printer::Transcript => prepay_transcript,
-            Printer::Statement => prepay_statement,
+            Printer::Transcript => head::transcript,
+            Printer::Statement => head::statement,
         };
-        // SAFETY: both lie inside their vectors.
-        unsafe { call(lent.as_ptr(), text.len(), self.bytes.as_mut_ptr().add(GUARD), out_len) }
+        call(&lent[..text.len()], &mut self.bytes[GUARD..GUARD + out_len])
     }
 }
