@@ -108,46 +108,11 @@ const _: () = assert!(
 );
 
 extern "C" {
-    fn prepay_transcript(text: *const u8, text_len: usize, out: *mut u8, out_len: usize) -> usize;
-    fn prepay_statement(text: *const u8, text_len: usize, out: *mut u8, out_len: usize) -> usize;
-    fn prepay_open(account: *mut Account, terms: Terms) -> u8;
-    fn prepay_post(account: *mut Account, event: Event) -> Answer;
-    fn prepay_row(account: *mut Account, row: *const Event, count: usize, codes: *mut u8, codes_len: usize) -> u8;
-    fn prepay_readings(account: *const Account) -> Reading;
-    fn prepay_summary(account: *const Account, month: u32) -> Figures;
-}
-
-// The calls over what Rust lends, which is all that head.h asks: any bytes may be an account. Inline, so that only who calls them links them.
-
-#[inline]
-pub fn transcript(text: &[u8], out: &mut [u8]) -> usize {
-    unsafe { prepay_transcript(text.as_ptr(), text.len(), out.as_mut_ptr(), out.len()) }
-}
-
-#[inline]
-pub fn statement(text: &[u8], out: &mut [u8]) -> usize {
-    unsafe { prepay_statement(text.as_ptr(), text.len(), out.as_mut_ptr(), out.len()) }
-}
-
-impl Account {
-    #[inline]
-    pub fn open(&mut self, terms: Terms) -> u8 {
-        unsafe { prepay_open(self, terms) }
-    }
-    #[inline]
-    pub fn post(&mut self, event: Event) -> Answer {
-        unsafe { prepay_post(self, event) }
-    }
-    #[inline]
-    pub fn row(&mut self, row: &[Event], codes: &mut [u8]) -> u8 {
-        unsafe { prepay_row(self, row.as_ptr(), row.len(), codes.as_mut_ptr(), codes.len()) }
-    }
-    #[inline]
-    pub fn readings(&self) -> Reading {
-        unsafe { prepay_readings(self) }
-    }
-    #[inline]
-    pub fn summary(&self, month: u32) -> Figures {
-        unsafe { prepay_summary(self, month) }
-    }
+    pub fn prepay_transcript(text: *const u8, text_len: usize, out: *mut u8, out_len: usize) -> usize;
+    pub fn prepay_statement(text: *const u8, text_len: usize, out: *mut u8, out_len: usize) -> usize;
+    pub fn prepay_open(account: *mut Account, terms: Terms) -> u8;
+    pub fn prepay_post(account: *mut Account, event: Event) -> Answer;
+    pub fn prepay_row(account: *mut Account, row: *const Event, count: usize, codes: *mut u8, codes_len: usize) -> u8;
+    pub fn prepay_readings(account: *const Account) -> Reading;
+    pub fn prepay_summary(account: *const Account, month: u32) -> Figures;
 }

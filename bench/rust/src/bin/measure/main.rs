@@ -4,10 +4,11 @@
 //! measure text [LIMIT]               the event text of the measurements, on standard output
 //! measure row                        the row of the measurements, as numbers (for stack.c)
 
+mod head;
 mod sorts;
 
 use fast::account::*;
-use fast::{head, mix};
+use fast::mix;
 use std::hint::black_box;
 use std::time::Instant;
 
@@ -83,14 +84,8 @@ fn time(f: impl FnOnce()) -> f64 {
     clock() - start
 }
 
-fn head_open(terms: &Terms) -> head::Account {
-    let mut account = head::Account([0; head::ACCOUNT_SIZE]);
-    assert_eq!(account.open(*terms), 0);
-    account
-}
-
 /// A row on a fresh account, by each side.
-fn head_row<'a>(fresh: &'a head::Account, row: &'a [Event]) -> Box<dyn FnMut() -> f64 + 'a> {
+fn head_row<'a>(fresh: &'a head::Image, row: &'a [Event]) -> Box<dyn FnMut() -> f64 + 'a> {
     let mut codes = vec![0; row.len()];
     Box::new(move || {
         let mut account = Box::new(*fresh);
@@ -112,18 +107,18 @@ fn fast_row<'a>(fresh: &'a Account, row: &'a [Event]) -> Box<dyn FnMut() -> f64 
 
 /// Both sides answer alike; the codes.
 fn agreed(terms: &Terms, row: &[Event]) -> Vec<u8> {
-    let mut image = head_open(terms);
+    let mut image = head::open(terms);
     let mut account = Account::open(terms).unwrap();
     let mut codes = vec![0; row.len()];
     for (e, code) in row.iter().zip(&mut codes) {
-        let (a, b) = (image.post(*e), account.post(e));
+        let (a, b) = (image.post(e), account.post(e));
         assert_eq!((a.code, a.value), (b.code, b.value), "{e:?}");
         *code = a.code;
     }
     let r = image.readings();
     assert_eq!((r.balance, r.settled, r.plan, r.estimates), (account.balance(), account.settled(), account.plan(), account.estimates()));
     let (mut a, mut b) = (vec![0; row.len()], vec![0; row.len()]);
-    assert_eq!(head_open(terms).row(row, &mut a), 0);
+    assert_eq!(head::open(terms).row(row, &mut a), 0);
     assert_eq!(Account::open(terms).unwrap().row(row, &mut b), 0);
     assert!(a == codes && b == codes);
     codes
@@ -175,7 +170,7 @@ fn tell_mix(what: &str, row: &[Event], codes: &[u8]) {
 }
 
 fn one_post(samples: usize, row: &[Event]) {
-    let fresh = head_open(&mix::TERMS);
+    let fresh = head::open(&mix::TERMS);
     let fast = Account::open(&mix::TERMS).unwrap();
     let (m, n) = (ROW / 4, ROW);
     let mut singly = Box::new(fresh);
@@ -192,7 +187,7 @@ fn one_post(samples: usize, row: &[Event]) {
             *singly = fresh;
             time(|| {
                 for e in row {
-                    black_box(singly.post(*black_box(e)));
+                    black_box(singly.post(black_box(e)));
                 }
             }) / ROW as f64
         }),
@@ -241,7 +236,7 @@ fn one_post(samples: usize, row: &[Event]) {
         let codes = agreed(&case.terms, &whole);
         assert!(codes[..case.before.len()].iter().all(|&c| c == 0), "{}", case.name);
         assert!(codes[case.before.len()..].iter().all(|&c| c == case.code), "{}", case.name);
-        let fresh = head_open(&case.terms);
+        let fresh = head::open(&case.terms);
         let fast = Account::open(&case.terms).unwrap();
         let mut tasks = vec![
             head_row(&fresh, &case.before),
@@ -257,7 +252,7 @@ fn one_post(samples: usize, row: &[Event]) {
 }
 
 fn whole_row(samples: usize, row: &[Event]) {
-    let fresh = head_open(&mix::TERMS);
+    let fresh = head::open(&mix::TERMS);
     let fast = Account::open(&mix::TERMS).unwrap();
     let times = in_turn(samples, &mut [head_row(&fresh, row), fast_row(&fast, row)]);
     println!("\n## (b) A row of {ROW} events on a fresh account\n");
@@ -316,7 +311,7 @@ fn spread(v: &[f64]) -> (f64, f64, f64, f64) {
 fn kth_event(samples: usize, mixed: &[Event]) {
     const BUCKET: usize = 256;
     let credits = vec![Event { sort: CREDIT, day: 3, amount: 100, ..Event::default() }; ROW];
-    let fresh = head_open(&mix::TERMS);
+    let fresh = head::open(&mix::TERMS);
     let fast = Account::open(&mix::TERMS).unwrap();
     println!("\n## (d) The k-th event, k from 1 to {ROW}: {} buckets of {BUCKET}\n", ROW / BUCKET);
     println!(
@@ -362,7 +357,7 @@ fn kth_event(samples: usize, mixed: &[Event]) {
                 for (e, times) in row.iter().zip(&mut each) {
                     let start = tsc();
                     if rattle {
-                        black_box(image.post(*black_box(e)));
+                        black_box(image.post(black_box(e)));
                     } else {
                         black_box(account.post(black_box(e)));
                     }

@@ -1,9 +1,9 @@
 //! The library under test, with guard bytes around everything lent to it.
 
-use crate::head::{self, Account, Answer, Event, Figures, Reading, Terms, ACCOUNT_SIZE, STATEMENT_ROOM, TRANSCRIPT_ROOM};
+use crate::head::*;
 
 /// The reference's limit, from document 01, is the header's.
-const _: () = assert!(head::TEXT_MOST == reference::text::MOST_BYTES);
+const _: () = assert!(TEXT_MOST == reference::text::MOST_BYTES);
 
 const GUARD: usize = 64;
 const AROUND: u8 = 0xA5;
@@ -32,11 +32,13 @@ impl Lent {
 
     pub fn open(&mut self, terms: Terms, fill: u8) -> u8 {
         self.account.0.fill(fill);
-        self.account.open(terms)
+        // SAFETY: the call's own memory.
+        unsafe { prepay_open(&mut self.account, terms) }
     }
 
     pub fn post(&mut self, event: Event) -> Answer {
-        self.account.post(event)
+        // SAFETY: an account.
+        unsafe { prepay_post(&mut self.account, event) }
     }
 
     /// The row's answer and the lent buffer afterwards, or what else was written.
@@ -48,7 +50,10 @@ impl Lent {
         events.push(trap);
         let as_lent = events.clone();
         let mut codes = vec![fill; GUARD + buffer + GUARD];
-        let answer = self.account.row(&events[1..1 + row.len()], &mut codes[GUARD..GUARD + buffer]);
+        // SAFETY: both lie inside their vectors.
+        let answer = unsafe {
+            prepay_row(&mut self.account, events.as_ptr().add(1), row.len(), codes.as_mut_ptr().add(GUARD), buffer)
+        };
         if events != as_lent {
             return Err("the row itself was written".into());
         }
@@ -59,11 +64,13 @@ impl Lent {
     }
 
     pub fn readings(&self) -> Reading {
-        self.account.readings()
+        // SAFETY: an account.
+        unsafe { prepay_readings(&self.account) }
     }
 
     pub fn summary(&self, month: u32) -> Figures {
-        self.account.summary(month)
+        // SAFETY: an account.
+        unsafe { prepay_summary(&self.account, month) }
     }
 }
 
@@ -139,9 +146,10 @@ impl Room {
     fn call(&mut self, printer: Printer, text: &[u8], out_len: usize) -> usize {
         let lent = [text, BEHIND].concat();
         let call = match printer {
-            Printer::Transcript => head::transcript,
-            Printer::Statement => head::statement,
+            Printer::Transcript => prepay_transcript,
+            Printer::Statement => prepay_statement,
         };
-        call(&lent[..text.len()], &mut self.bytes[GUARD..GUARD + out_len])
+        // SAFETY: both lie inside their vectors.
+        unsafe { call(lent.as_ptr(), text.len(), self.bytes.as_mut_ptr().add(GUARD), out_len) }
     }
 }
