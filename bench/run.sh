@@ -26,7 +26,7 @@ quiet "${CC:-cc}" -O2 -Wall -Wextra process.c -o "$work/process"
 quiet "${CC:-cc}" -O2 -Wall -Wextra -I../include stack.c "$work/libhead.a" -o "$work/stack"
 
 cd "$work"
-./measure text 65536 >text
+./measure text >text
 ./measure row >row
 echo "# Benchmark of $(date -u '+%Y-%m-%d %H:%M') UTC"
 echo

@@ -22,9 +22,6 @@ static const prepay_terms terms = {2024, 1, 1, 1250, 5000, 1000, 50};
 static size_t at; /* the event that is posted */
 static volatile uint64_t sink;
 
-/* Not in every libhead.a. */
-size_t prepay_statement(const uint8_t *, size_t, uint8_t *, size_t) __attribute__((weak));
-
 static void nothing(void) {}
 static void open_(void) { sink = prepay_open(&account, terms); }
 static void post(void) { sink = prepay_post(&account, row[at]).code; }
@@ -85,9 +82,6 @@ int main(int argc, char **argv) {
     printf("| prepay_readings | %zu |\n", depth(readings) - base);
     printf("| prepay_summary | %zu |\n", depth(summary) - base);
     printf("| prepay_transcript of %zu bytes | %zu |\n", text_len, depth(transcript) - base);
-    if (prepay_statement)
-        printf("| prepay_statement of the same | %zu |\n", depth(statement) - base);
-    else
-        printf("| prepay_statement | not in this libhead.a |\n");
+    printf("| prepay_statement of the same | %zu |\n", depth(statement) - base);
     return 0;
 }

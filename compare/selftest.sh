@@ -12,15 +12,19 @@ pattern=${3:-.}
 
 work=$(mktemp -d)
 trap 'rm -rf "$work"' EXIT
+# A copy of the reference, beside the header as here.
+mutant=$work/compare/reference
+mkdir -p "$mutant"
+cp -r ../include "$work/"
 # Plain arithmetic, as a careless program would have it; built in haste.
 export CARGO_PROFILE_RELEASE_OVERFLOW_CHECKS=false CARGO_PROFILE_RELEASE_DEBUG_ASSERTIONS=false CARGO_PROFILE_RELEASE_OPT_LEVEL=1
 build() {
-    CARGO_TARGET_DIR=$work/target cargo build --release --offline --quiet --manifest-path "$work/Cargo.toml" \
+    CARGO_TARGET_DIR=$work/target cargo build --release --offline --quiet --manifest-path "$mutant/Cargo.toml" \
         --example shim --bin prepay_ref --bin summary_ref 2>"$work/warnings" || { cat "$work/warnings"; exit 2; }
 }
 copy() {
-    rm -rf "$work/src"
-    cp -r reference/src reference/build.rs reference/Cargo.toml reference/Cargo.lock "$work/"
+    rm -rf "$mutant/src"
+    cp -r reference/src reference/build.rs reference/Cargo.toml reference/Cargo.lock "$mutant/"
 }
 run() {
     LD_LIBRARY_PATH=$work/target/release/examples "$compare" --prepay "$work/target/release/prepay_ref" \
@@ -33,10 +37,10 @@ copy
 build
 (
     unset CARGO_PROFILE_RELEASE_OVERFLOW_CHECKS CARGO_PROFILE_RELEASE_DEBUG_ASSERTIONS CARGO_PROFILE_RELEASE_OPT_LEVEL
-    HEAD_LIBRARY=$work/target/release/examples/libshim.so CARGO_TARGET_DIR=$work/compare cargo build --release --offline --quiet \
+    HEAD_LIBRARY=$work/target/release/examples/libshim.so CARGO_TARGET_DIR=$work/own cargo build --release --offline --quiet \
         --manifest-path reference/Cargo.toml
 )
-compare=$work/compare/release/compare
+compare=$work/own/release/compare
 status=0
 run --texts 300 --lists 300 || status=$?
 if [[ $status != 0 ]]; then
@@ -51,8 +55,8 @@ while IFS='|' read -r name file change; do
     [[ -z $name || $name == \#* ]] && continue
     [[ $name =~ $pattern ]] || continue
     copy
-    perl -0pi -e "$change" "$work/src/$file"
-    if cmp -s "reference/src/$file" "$work/src/$file"; then
+    perl -0pi -e "$change" "$mutant/src/$file"
+    if cmp -s "reference/src/$file" "$mutant/src/$file"; then
         echo "NOT APPLIED  $name"
         missed=$((missed + 1))
         continue

@@ -18,75 +18,7 @@
     printf("%s.%s at=%zu size=%zu%s\n", #t, #f, offsetof(t, f), sizeof(((t *)0)->f), SIGNED(((t *)0)->f) ? " signed" : "")
 
 static void print(void) {
-    TYPE(prepay_terms);
-    FIELD(prepay_terms, year);
-    FIELD(prepay_terms, month);
-    FIELD(prepay_terms, day);
-    FIELD(prepay_terms, price);
-    FIELD(prepay_terms, connect);
-    FIELD(prepay_terms, cutoff);
-    FIELD(prepay_terms, share);
-    TYPE(prepay_event);
-    FIELD(prepay_event, sort);
-    FIELD(prepay_event, day);
-    FIELD(prepay_event, amount);
-    FIELD(prepay_event, number);
-    FIELD(prepay_event, kind);
-    FIELD(prepay_event, usage);
-    FIELD(prepay_event, wh);
-    FIELD(prepay_event, from);
-    FIELD(prepay_event, to);
-    TYPE(prepay_answer);
-    FIELD(prepay_answer, code);
-    FIELD(prepay_answer, value);
-    TYPE(prepay_totals);
-    FIELD(prepay_totals, credit);
-    FIELD(prepay_totals, debit);
-    FIELD(prepay_totals, plan);
-    FIELD(prepay_totals, standing);
-    FIELD(prepay_totals, count);
-    FIELD(prepay_totals, events);
-    FIELD(prepay_totals, last);
-    FIELD(prepay_totals, on);
-    TYPE(prepay_day);
-    FIELD(prepay_day, state);
-    FIELD(prepay_day, wh);
-    FIELD(prepay_day, cost);
-    TYPE(prepay_payment);
-    FIELD(prepay_payment, day);
-    FIELD(prepay_payment, amount);
-    FIELD(prepay_payment, part);
-    FIELD(prepay_payment, reversed);
-    TYPE(prepay_account);
-    FIELD(prepay_account, totals);
-    FIELD(prepay_account, terms);
-    FIELD(prepay_account, days);
-    FIELD(prepay_account, marks);
-    FIELD(prepay_account, warned);
-    FIELD(prepay_account, payments);
-    FIELD(prepay_account, spare);
-    FIELD(prepay_account, charges);
-    TYPE(prepay_reading);
-    FIELD(prepay_reading, balance);
-    FIELD(prepay_reading, settled);
-    FIELD(prepay_reading, plan);
-    FIELD(prepay_reading, estimates);
-    FIELD(prepay_reading, service);
-    TYPE(prepay_counted);
-    FIELD(prepay_counted, count);
-    FIELD(prepay_counted, sum);
-    TYPE(prepay_used);
-    FIELD(prepay_used, wh);
-    FIELD(prepay_used, cost);
-    TYPE(prepay_summary_figures);
-    FIELD(prepay_summary_figures, code);
-    FIELD(prepay_summary_figures, kept);
-    FIELD(prepay_summary_figures, reversed);
-    FIELD(prepay_summary_figures, metered);
-    FIELD(prepay_summary_figures, estimated);
-    FIELD(prepay_summary_figures, charges);
-    FIELD(prepay_summary_figures, average);
-    FIELD(prepay_summary_figures, missing);
+#include "layout_fields.h" /* of head.h, by layout.py */
 }
 
 /* ---- check */

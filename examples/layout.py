@@ -1,42 +1,57 @@
 #!/usr/bin/env python3
-"""The layout that Rattle proves of the types of the C interface, in the lines that `layout print` prints.
+"""The structs and functions of include/head.h, and what Rattle proves of them.
 
-Usage: layout.py GOALS, GOALS being target/goals after `rt goals` of calendar, terms, ledger, image and head. Sizes and alignments are
-the proved numbers (`size-is`, `align-is` of each type's Laws.antt). The places of the fields follow from the proved list of field types
-(`mir-is`) by C's rule: each field at the next multiple of its alignment. That rule is applied to the whole struct too and must give the
-proved size and alignment. The types of the parameters and results are those of head's functions (Code/Mir.antt), held to PROTOTYPES.
+layout.py fields          the lines of layout.c that print each struct and field of the header
+layout.py proved GOALS    the proved layout, in the lines that `layout print` prints; GOALS is target/goals after `rt goals` of calendar,
+                          terms, ledger, image and head
+
+Sizes and alignments are the proved numbers (`size-is`, `align-is` of each type's Laws.antt). The places of the fields follow from the
+proved list of field types (`mir-is`) by C's rule: each field at the next multiple of its alignment. That rule is applied to the whole
+struct too and must give the proved size and alignment. The types of the parameters and results are those of head's functions
+(Code/Mir.antt), held to the header's.
 """
 import re
 import sys
 from pathlib import Path
 
-# C's struct, the Rattle type, and C's names where the Rattle struct has a struct for them.
-TYPES = [
-    ("prepay_terms", "terms::Terms"),
-    ("prepay_event", "ledger::Event"),
-    ("prepay_answer", "ledger::Answer"),
-    ("prepay_totals", "image::TotalsImage"),
-    ("prepay_day", "image::DayImage"),
-    ("prepay_payment", "image::PaymentImage"),
-    ("prepay_account", "image::Image"),
-    ("prepay_reading", "image::Reading"),
-    ("prepay_counted", "ledger::Counted"),
-    ("prepay_used", "ledger::Used"),
-    ("prepay_summary_figures", "ledger::Summary"),
-]
+# C's types and Rattle's.
+TYPES = {
+    "prepay_terms": "terms::Terms",
+    "prepay_event": "ledger::Event",
+    "prepay_answer": "ledger::Answer",
+    "prepay_totals": "image::TotalsImage",
+    "prepay_day": "image::DayImage",
+    "prepay_payment": "image::PaymentImage",
+    "prepay_account": "image::Image",
+    "prepay_reading": "image::Reading",
+    "prepay_counted": "ledger::Counted",
+    "prepay_used": "ledger::Used",
+    "prepay_summary_figures": "ledger::Summary",
+    "uint8_t": "u8",
+    "uint32_t": "u32",
+    "size_t": "u64",
+}
 # head.h has the date's fields in the terms themselves.
 FLAT = {"prepay_terms": "opened"}
 
-# Result, then parameters: as head.h declares them. A slice is a pointer and a count in C.
-PROTOTYPES = {
-    "prepay_open": ["u8", "&mut image::Image", "terms::Terms"],
-    "prepay_post": ["ledger::Answer", "&mut image::Image", "ledger::Event"],
-    "prepay_row": ["u8", "&mut image::Image", "&[ledger::Event]", "&mut [u8]"],
-    "prepay_readings": ["image::Reading", "&image::Image"],
-    "prepay_summary": ["ledger::Summary", "&image::Image", "u32"],
-    "prepay_transcript": ["u64", "&[u8]", "&mut [u8]"],
-    "prepay_statement": ["u64", "&[u8]", "&mut [u8]"],
-}
+HEADER = re.sub(r"/\*.*?\*/", "", (Path(__file__).parent / "../include/head.h").read_text(), flags=re.S)
+# Each struct's fields.
+STRUCTS = {c: re.findall(r"(\w+)(?:\[\d+\])?[,;]", body) for body, c in re.findall(r"typedef struct \{([^}]*)\} (\w+);", HEADER)}
+# Result, name and parameters of each function.
+FUNCTIONS = re.findall(r"^(\w+) (prepay_\w+)\((.*)\);$", HEADER, re.M)
+
+
+def prototype(result, parameters):
+    """Result, then parameters, as Rattle has them: a pointer and a count are a slice."""
+    types = [TYPES[result]]
+    for p in parameters.split(", "):
+        const, c, pointer, name_ = re.fullmatch(r"(const )?(\w+) (\*?)(\w+)", p).groups()
+        if c == "size_t":
+            mark, of = re.fullmatch(r"(&mut |&)(.*)", types.pop()).groups()
+            types.append(f"{mark}[{of}]")
+        else:
+            types.append(("&" if const else "&mut ") * bool(pointer) + TYPES[c])
+    return types
 
 
 def parse(text):
@@ -178,15 +193,21 @@ def check_prototype(goals, function, wanted):
         assert locals_[0] == "List._∷_", locals_
         types.append(spelled(locals_[1][1]))
         locals_ = locals_[2]
-    assert types == wanted, f"{function}: head.h is written for {wanted}, Rattle has {types}"
+    assert types == wanted, f"{function}: head.h has {wanted}, Rattle {types}"
 
 
 def main():
-    goals = Path(sys.argv[1])
-    for function, wanted in PROTOTYPES.items():
-        check_prototype(goals, function, wanted)
-    for c, type_ in TYPES:
-        print_type(goals, c, type_)
+    if sys.argv[1] == "fields":
+        for c, names in STRUCTS.items():
+            print(f"TYPE({c});")
+            for n in names:
+                print(f"FIELD({c}, {n});")
+        return
+    goals = Path(sys.argv[2])
+    for result, function, parameters in FUNCTIONS:
+        check_prototype(goals, function, prototype(result, parameters))
+    for c in STRUCTS:
+        print_type(goals, c, TYPES[c])
 
 
 main()

@@ -18,7 +18,8 @@ if stale "$library"; then
     rt staticlib head >"$work/staticlib.log" 2>&1 || { tail -20 "$work/staticlib.log"; exit 1; }
 fi
 
-strict=(-Wall -Wextra -Werror -I include)
+python3 examples/layout.py fields >"$work/layout_fields.h"
+strict=(-Wall -Wextra -Werror -I include -I "$work")
 for name in example layout; do
     gcc -std=c11 "${strict[@]}" -O2 "examples/$name.c" "$library" -o "$work/$name"
 done
@@ -29,7 +30,7 @@ calls=$(nm "$library" | awk '$1 == "U" { print $2 }' | sort -u | tr '\n' ' ')
 [[ $calls == "memcpy memset " ]] || fail "the library calls $calls"
 
 # The header as C++, and as C on its own.
-printf '#include "head.h"\nstatic_assert(sizeof(prepay_account) == 8328, "");\nuint8_t f(prepay_account &a, const prepay_event &e, uint8_t &c) { return prepay_row(&a, &e, 1, &c, 1); }\n' \
+printf '#include "head.h"\nstatic_assert(sizeof(prepay_account) == PREPAY_ACCOUNT_SIZE && alignof(prepay_account) == 8, "");\nuint8_t f(prepay_account &a, const prepay_event &e, uint8_t &c) { return prepay_row(&a, &e, 1, &c, 1); }\n' \
     >"$work/header.cpp"
 g++ -x c++ -std=c++11 -fsyntax-only "${strict[@]}" "$work/header.cpp" || fail "head.h is no C++"
 gcc -x c -std=c11 -pedantic -fsyntax-only "${strict[@]}" include/head.h || fail "head.h does not stand alone"
@@ -66,9 +67,9 @@ if [[ ${GOALS:-} != no ]]; then
         fi
     done
     "$work/layout" print >"$work/layout.c.out"
-    if python3 examples/layout.py target/goals >"$work/layout.rattle.out" && diff "$work/layout.c.out" "$work/layout.rattle.out"; then
+    if python3 examples/layout.py proved target/goals >"$work/layout.rattle.out" && diff "$work/layout.c.out" "$work/layout.rattle.out"; then
         say "sizes, alignments and places of $(grep -c '^[^.]* size' "$work/layout.c.out") structs with" \
-            "$(grep -c 'at=' "$work/layout.c.out") fields are those that Rattle proves; so are the types of the seven functions"
+            "$(grep -c 'at=' "$work/layout.c.out") fields are those that Rattle proves; so are the types of the $(grep -c '^[a-z].*);$' include/head.h) functions"
     else
         fail "head.h (<) is not what Rattle proves (>)"
     fi

@@ -108,7 +108,7 @@ static void feed(prepay_account *a, int surely_none, prepay_event *row, uint8_t 
         expect(s.code == 0 || empty_figures(s), "the figures of a refused month are 0");
         expect(none || month <= 14 || s.code == 3, "a month past 14 is refused");
     }
-    expect((none ? memcmp(a, &was, sizeof was) == 0 : same_account(a, &was)), "reading leaves the bytes as they are");
+    expect(same_account(a, &was), "reading leaves the bytes as they are");
 
     for (uint32_t sort = 0; sort <= 13; sort++) {
         prepay_event e = any_event(sort <= 12 ? sort : (uint32_t)next());
@@ -116,7 +116,7 @@ static void feed(prepay_account *a, int surely_none, prepay_event *row, uint8_t 
         expect(none ? answer.code == 1 : answer.code <= 14, "1 for every event of no account");
         expect(answer.code == 0 || answer.value == 0, "a refusal has the value 0");
         if (answer.code != 0) {
-            expect((none ? memcmp(a, &was, sizeof was) == 0 : same_account(a, &was)), "a refused event leaves the bytes as they are");
+            expect(same_account(a, &was), "a refused event leaves the bytes as they are");
             events_refused++;
         } else {
             memcpy(&was, a, sizeof was);
@@ -133,7 +133,7 @@ static void feed(prepay_account *a, int surely_none, prepay_event *row, uint8_t 
     if (count > 0) {
         memset(codes, 0xEE, most);
         expect(prepay_row(a, from, count, to, below((uint32_t)count)) == 16, "a short buffer is 16");
-        expect((none ? memcmp(a, &was, sizeof was) == 0 : same_account(a, &was)), "a short buffer leaves the bytes as they are");
+        expect(same_account(a, &was), "a short buffer leaves the bytes as they are");
         for (size_t i = 0; i < most; i++)
             expect(codes[i] == 0xEE, "a short buffer is not written");
     }
@@ -146,7 +146,7 @@ static void feed(prepay_account *a, int surely_none, prepay_event *row, uint8_t 
     }
     for (uint8_t *p = codes; p < to; p++)
         expect(*p == 0xEE, "prepay_row writes the row's bytes alone");
-    expect(accepted || (none ? memcmp(a, &was, sizeof was) == 0 : same_account(a, &was)), "a row of refusals leaves the bytes as they are");
+    expect(accepted || same_account(a, &was), "a row of refusals leaves the bytes as they are");
 
     /* What is an account stays one. */
     if (!none)

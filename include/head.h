@@ -116,6 +116,9 @@ typedef struct {
     uint64_t charges[75];
 } prepay_account;
 
+/* Its size in bytes; its alignment is 8. */
+#define PREPAY_ACCOUNT_SIZE 8328
+
 /* The readings of an account. */
 typedef struct {
     int64_t balance;    /* B */

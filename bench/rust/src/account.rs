@@ -7,18 +7,8 @@ pub const MOST_AMOUNT: u32 = 10_000_000;
 pub const MOST_WH: u32 = 9_999_999;
 pub const MONTHS: usize = 15;
 
-/// As in include/head.h, so that both sides can be lent the same row.
-#[repr(C)]
-#[derive(Clone, Copy, Debug, Default, PartialEq, Eq)]
-pub struct Terms {
-    pub year: u32,
-    pub month: u32,
-    pub day: u32,
-    pub price: u32,
-    pub connect: u32,
-    pub cutoff: u32,
-    pub share: u32,
-}
+/// Both sides can be lent the same row.
+pub use crate::head::{Answer, Event, Terms};
 
 pub const PAY: u32 = 1;
 pub const REVERSE: u32 = 2;
@@ -31,27 +21,6 @@ pub const MARK: u32 = 8;
 pub const PLAN: u32 = 9;
 pub const DISCONNECT: u32 = 10;
 pub const CONNECT: u32 = 11;
-
-/// As in include/head.h.
-#[repr(C)]
-#[derive(Clone, Copy, Debug, Default, PartialEq, Eq)]
-pub struct Event {
-    pub sort: u32,
-    pub day: u32,
-    pub amount: u32,
-    pub number: u32,
-    pub kind: u32,
-    pub usage: u32,
-    pub wh: u32,
-    pub from: u32,
-    pub to: u32,
-}
-
-#[derive(Clone, Copy, Debug, PartialEq, Eq)]
-pub struct Answer {
-    pub code: u8,
-    pub value: u64,
-}
 
 #[derive(Clone, Copy, PartialEq, Eq)]
 enum State {

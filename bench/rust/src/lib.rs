@@ -2,5 +2,7 @@
 //! place, with what document 01 says and no more.
 
 pub mod account;
+#[path = "../../../include/head.rs"]
+pub mod head;
 pub mod mix;
 pub mod text;

@@ -10,10 +10,10 @@ use reference::text;
 use std::cell::RefCell;
 use std::panic::{catch_unwind, AssertUnwindSafe};
 
-#[path = "bin/compare/interface.rs"]
+#[path = "../../../include/head.rs"]
 #[allow(dead_code)]
-mod interface;
-use interface as c;
+mod head;
+use head as c;
 
 const PLACES: u64 = 64;
 
@@ -29,7 +29,7 @@ fn safely<T>(otherwise: T, f: impl FnOnce() -> T) -> T {
 }
 
 fn with<T>(account: &c::Account, otherwise: T, f: impl FnOnce(&mut Head) -> T) -> T {
-    let number = account.charges[0];
+    let number = u64::from_ne_bytes(*account.0.first_chunk().unwrap());
     safely(None, || {
         HEADS.with_borrow_mut(|(_, heads)| heads.iter_mut().find(|h| h.0 == number).map(|h| f(&mut h.1)))
     })
@@ -47,7 +47,7 @@ pub unsafe extern "C" fn prepay_open(account: *mut c::Account, t: c::Terms) -> u
             heads.retain(|h| h.0 + PLACES > *last);
             heads.push((*last, head));
             account.write_bytes(0, 1);
-            (*account).charges[0] = *last;
+            (&mut (*account).0)[..8].copy_from_slice(&last.to_ne_bytes());
         });
         code
     })

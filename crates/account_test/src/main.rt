@@ -35,25 +35,18 @@ fn say(n: u64) {
     io::print_decimal(STDOUT_FILENO, n);
 }
 
-// The number without its minus.
-fn size_of(n: i64) -> u64 {
-    if n >= 0 {
-        return n as u64;
+fn say_bytes(out: &[u8], length: usize) {
+    if length > out.len() {
+        return;
     }
-    if n > -9223372036854775807 {
-        return (0 - n) as u64;
-    }
-    9223372036854775807
+    let first = 0;
+    io::write_all(STDOUT_FILENO, &out[first..length]);
 }
 
 fn say_signed(n: i64) {
-    let size = size_of(n);
-    if n >= 0 {
-        say(size);
-        return;
-    }
-    io::write_all(STDOUT_FILENO, b" -");
-    io::print_decimal(STDOUT_FILENO, size);
+    let mut out = [0u8; 24];
+    let length = printing::put_sum(&mut out, 0, b" ", n);
+    say_bytes(&out, length);
 }
 
 fn say_sums(s: Totals) {

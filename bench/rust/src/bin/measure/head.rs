@@ -1,67 +1,26 @@
-//! The calls of include/head.h.
+//! The calls of include/head.h over what Rust lends.
 
-use fast::account::{Event, Terms};
+use fast::head::*;
+pub use fast::head::{ACCOUNT_SIZE, TEXT_MOST, TRANSCRIPT_ROOM};
 
-#[repr(C)]
 #[derive(Clone, Copy)]
-pub struct Totals {
-    sums: [u64; 4],
-    counts: [u32; 4],
-}
-
-#[repr(C)]
-#[derive(Clone, Copy)]
-pub struct Image {
-    pub totals: Totals,
-    terms: Terms,
-    days: [[u32; 3]; 400],
-    marks: [u8; 400],
-    warned: [u8; 400],
-    payments: [[u32; 4]; 128],
-    spare: u32,
-    charges: [u64; 75],
-}
-
-#[repr(C)]
-pub struct Answer {
-    pub code: u8,
-    pub value: u64,
-}
-
-#[repr(C)]
-pub struct Reading {
-    pub balance: i64,
-    pub settled: i64,
-    pub plan: u64,
-    pub estimates: u64,
-    pub service: u64,
-}
-
-extern "C" {
-    fn prepay_open(account: *mut Image, terms: Terms) -> u8;
-    fn prepay_post(account: *mut Image, event: Event) -> Answer;
-    fn prepay_row(account: *mut Image, row: *const Event, count: usize, codes: *mut u8, codes_len: usize) -> u8;
-    fn prepay_readings(account: *const Image) -> Reading;
-    fn prepay_transcript(text: *const u8, text_len: usize, out: *mut u8, out_len: usize) -> usize;
-}
+pub struct Image(Account);
 
 pub fn open(terms: &Terms) -> Image {
-    let mut image = std::mem::MaybeUninit::<Image>::zeroed();
-    unsafe {
-        assert_eq!(prepay_open(image.as_mut_ptr(), *terms), 0);
-        image.assume_init()
-    }
+    let mut account = Account([0; ACCOUNT_SIZE]);
+    assert_eq!(unsafe { prepay_open(&mut account, *terms) }, 0);
+    Image(account)
 }
 
 impl Image {
     pub fn post(&mut self, event: &Event) -> Answer {
-        unsafe { prepay_post(self, *event) }
+        unsafe { prepay_post(&mut self.0, *event) }
     }
     pub fn row(&mut self, row: &[Event], codes: &mut [u8]) -> u8 {
-        unsafe { prepay_row(self, row.as_ptr(), row.len(), codes.as_mut_ptr(), codes.len()) }
+        unsafe { prepay_row(&mut self.0, row.as_ptr(), row.len(), codes.as_mut_ptr(), codes.len()) }
     }
     pub fn readings(&self) -> Reading {
-        unsafe { prepay_readings(self) }
+        unsafe { prepay_readings(&self.0) }
     }
 }
 

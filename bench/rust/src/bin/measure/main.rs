@@ -1,7 +1,7 @@
 //! Times the Rattle head (libhead.a) and the fast Rust account on the same inputs, in one process. See bench/run.sh.
 //!
 //! measure times [samples]            the tables (a), (b), (c in one process), (d)
-//! measure text LIMIT                 the event text of the measurements, on standard output
+//! measure text [LIMIT]               the event text of the measurements, on standard output
 //! measure row                        the row of the measurements, as numbers (for stack.c)
 
 mod head;
@@ -265,8 +265,8 @@ fn whole_row(samples: usize, row: &[Event]) {
 }
 
 fn transcripts(samples: usize) {
-    let (text, events) = mix::text(SEED, &mix::TERMS, 65_536);
-    let (mut a, mut b) = (vec![0; 655_360], vec![0; 655_360]);
+    let (text, events) = mix::text(SEED, &mix::TERMS, head::TEXT_MOST);
+    let (mut a, mut b) = (vec![0; head::TRANSCRIPT_ROOM], vec![0; head::TRANSCRIPT_ROOM]);
     let len = head::transcript(&text, &mut a);
     assert_eq!(len, fast::text::transcript(&text, &mut b));
     assert!(a[..len] == b[..len]);
@@ -378,7 +378,7 @@ fn times(samples: usize) {
     println!("{samples} runs each, both sides in turn in one process on one core; the thread's own time.\n");
     tell_mix("The mix, row", &row, &codes);
     println!("Sizes: image (prepay_account) {} bytes, Rattle record {RECORD}, Rust record {}, event {}.",
-        size_of::<head::Image>(), size_of::<Account>(), size_of::<Event>());
+        head::ACCOUNT_SIZE, size_of::<Account>(), size_of::<Event>());
     one_post(samples, &row);
     whole_row(samples, &row);
     transcripts(samples);
@@ -391,7 +391,7 @@ fn main() {
     let number = |i: usize, or: usize| args.get(i).map_or(or, |s| s.parse().expect("a number"));
     match args.get(1).map(String::as_str) {
         Some("times") => times(number(2, 101)),
-        Some("text") => std::io::stdout().write_all(&mix::text(SEED, &mix::TERMS, number(2, 65_536)).0).unwrap(),
+        Some("text") => std::io::stdout().write_all(&mix::text(SEED, &mix::TERMS, number(2, head::TEXT_MOST)).0).unwrap(),
         Some("row") => {
             for e in mix::row(SEED, ROW) {
                 println!("{} {} {} {} {} {} {} {} {}", e.sort, e.day, e.amount, e.number, e.kind, e.usage, e.wh, e.from, e.to);

@@ -3,7 +3,8 @@
 //! calls; the library under test and the reference get the same.
 
 use crate::generate;
-use crate::head::{Event as LentEvent, Figures, Lent, Reading, Terms as LentTerms};
+use crate::head::{Event as LentEvent, Figures, Reading, Terms as LentTerms};
+use crate::lent::Lent;
 use crate::rng::Rng;
 use crate::stats::CallStats;
 use reference::calendar::Date;
@@ -327,7 +328,7 @@ pub fn run(list: &List, lent_account: &mut Lent, mut stats: Option<&mut CallStat
     }
     for (i, call) in list.calls.iter().enumerate() {
         let fill = FILLS[i % FILLS.len()];
-        let before = lent_account.fields();
+        let before = lent_account.bytes();
         let mut accepted = false;
         match call {
             Call::Post(record) => {
@@ -376,7 +377,7 @@ pub fn run(list: &List, lent_account: &mut Lent, mut stats: Option<&mut CallStat
         if !lent_account.guards_stand() {
             return differs(i, "bytes around the account were written".into());
         }
-        if !accepted && lent_account.fields() != before {
+        if !accepted && lent_account.bytes() != before {
             return differs(i, "nothing was accepted, but the account has changed".into());
         }
         if let Some(ledger) = &head.ledger {

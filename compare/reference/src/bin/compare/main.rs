@@ -6,15 +6,16 @@ mod calls;
 mod damage;
 mod execute;
 mod generate;
+#[path = "../../../../../include/head.rs"]
 mod head;
-mod interface;
+mod lent;
 mod rng;
 mod shrink;
 mod stats;
 
 use calls::{Difference, List};
 use execute::{End, Feed, Output, Runner};
-use head::{Lent, Printer, Room};
+use lent::{Lent, Printer, Room};
 use rng::Rng;
 use std::cell::RefCell;
 use std::collections::BTreeMap;
@@ -405,10 +406,7 @@ fn main() {
                     trouble.push((p, text.clone(), format!("a {maker} text")));
                 } else if let (Side::Library(printer), true) = (&p.side, r.percent(10)) {
                     // The same with a buffer that is too short.
-                    let room = match printer {
-                        Printer::Transcript => head::TRANSCRIPT_ROOM,
-                        Printer::Statement => head::STATEMENT_ROOM,
-                    };
+                    let room = printer.room();
                     let out_len = match r.below(5) {
                         0 => 0,
                         1 => good.len().min(room - 1),

@@ -1,17 +1,9 @@
 //! The library under test, with guard bytes around everything lent to it.
 
-pub use crate::interface::*;
-use std::mem::size_of;
+use crate::head::*;
 
-extern "C" {
-    fn prepay_transcript(text: *const u8, text_len: usize, out: *mut u8, out_len: usize) -> usize;
-    fn prepay_statement(text: *const u8, text_len: usize, out: *mut u8, out_len: usize) -> usize;
-    fn prepay_open(account: *mut Account, terms: Terms) -> u8;
-    fn prepay_post(account: *mut Account, event: Event) -> Answer;
-    fn prepay_row(account: *mut Account, row: *const Event, count: usize, codes: *mut u8, codes_len: usize) -> u8;
-    fn prepay_readings(account: *const Account) -> Reading;
-    fn prepay_summary(account: *const Account, month: u32) -> Figures;
-}
+/// The reference's limit, from document 01, is the header's.
+const _: () = assert!(TEXT_MOST == reference::text::MOST_BYTES);
 
 const GUARD: usize = 64;
 const AROUND: u8 = 0xA5;
@@ -26,11 +18,7 @@ pub struct Lent {
 
 impl Lent {
     pub fn new() -> Box<Lent> {
-        // SAFETY: numbers alone.
-        let mut lent: Box<Lent> = unsafe { Box::new(std::mem::zeroed()) };
-        lent.before = [AROUND; GUARD];
-        lent.after = [AROUND; GUARD];
-        lent
+        Box::new(Lent { before: [AROUND; GUARD], account: Account([0; ACCOUNT_SIZE]), after: [AROUND; GUARD] })
     }
 
     pub fn guards_stand(&self) -> bool {
@@ -38,18 +26,14 @@ impl Lent {
     }
 
     /// The bytes of the account.
-    pub fn fields(&self) -> Vec<u8> {
-        // SAFETY: as many bytes as the account has.
-        let bytes = unsafe { std::slice::from_raw_parts(&self.account as *const Account as *const u8, size_of::<Account>()) };
-        bytes.to_vec()
+    pub fn bytes(&self) -> Vec<u8> {
+        self.account.0.to_vec()
     }
 
     pub fn open(&mut self, terms: Terms, fill: u8) -> u8 {
-        // SAFETY: numbers alone; the call's own memory.
-        unsafe {
-            (&mut self.account as *mut Account).write_bytes(fill, 1);
-            prepay_open(&mut self.account, terms)
-        }
+        self.account.0.fill(fill);
+        // SAFETY: the call's own memory.
+        unsafe { prepay_open(&mut self.account, terms) }
     }
 
     pub fn post(&mut self, event: Event) -> Answer {
@@ -97,6 +81,16 @@ pub enum Printer {
     Statement,
 }
 
+impl Printer {
+    /// What its output buffer must hold.
+    pub fn room(self) -> usize {
+        match self {
+            Printer::Transcript => TRANSCRIPT_ROOM,
+            Printer::Statement => STATEMENT_ROOM,
+        }
+    }
+}
+
 /// Room for the answers, filled anew after each call.
 pub struct Room {
     bytes: Vec<u8>,
@@ -114,11 +108,7 @@ impl Room {
     /// What the call prints for the text with an output buffer `more` bytes longer than
     /// it must be; or what was wrong with its memory.
     pub fn print(&mut self, printer: Printer, text: &[u8], more: usize) -> Result<Vec<u8>, String> {
-        let room = match printer {
-            Printer::Transcript => TRANSCRIPT_ROOM,
-            Printer::Statement => STATEMENT_ROOM,
-        };
-        let out_len = room + more.min(2 * GUARD);
+        let out_len = printer.room() + more.min(2 * GUARD);
         let n = self.call(printer, text, out_len);
         if n > out_len {
             self.bytes.fill(FILL);
