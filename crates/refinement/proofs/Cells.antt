@@ -14,7 +14,7 @@ use Rattle.terms.specs.declared.Terms.{Terms}
 use Rattle.ledger.specs.declared.Event.{Event}
 use Rattle.ledger.specs.Event.{isPay, isReverse, isCharge, isEstimate, isRead, isWarn, isMark}
 use Rattle.ledger.specs.Entries.{Entries, lastDay, payments, usageDay}
-use Rattle.ledger.specs.Rules.{Ledger}
+use Rattle.ledger.specs.Rules.{Ledger, refusals}
 use Rattle.ledger.specs.Sums.{standing}
 use Rattle.ledger.specs.Months.{chargesIn}
 use Rattle.ledger.specs.Ledger as ledger
@@ -142,8 +142,9 @@ module _ (a : Account) (l : Ledger) (e : Event) (g : Agree (a .terms) a l) (s : 
       (λ f. simp f (g .sums .count ∙ sym (payments-same e (x .part) (l .list) (sort-is 1 f))))
 
   count-most : m .totals .count ≤ 128
+  unfolding refusals
   count-most = rw (ap (λ (y : Move). y .totals .count) w) (decide (eqb k 1)
-      (λ y. simp y (omega (arith, g .sums .count, leb-false 128 (payments (l .list)) (simp (sort-is 1 y) at (taken a l g e h s z .code5)))))
+      (λ y. simp y (omega (arith, g .sums .count, leb-false 128 (payments (l .list)) (simp (sort-is 1 y) at (taken a l g e h s z .rule 5)))))
       (λ f. simp f (g .bounds .count)))
 
   -- ---- all of it

@@ -2,7 +2,6 @@
 -- Assumes nothing.
 use borrow.Author.Needs.{needs}
 use borrow.Author.Tests.{eq-eqb, ne-eqb}
-use mathlib.Core.Path.{_≡_}
 use Rattle.account.specs.Step.{stepOf}
 use Rattle.account.proofs.step.Statement.{statement}
 use Rattle.account.proofs.step.Tie as tie
@@ -10,12 +9,6 @@ use Rattle.account.proofs.step.Tie as tie
 returns : tie.Need-returns
 unfolding stepOf
 returns c = rw (← c .before .before .move-of .ensures .move, ne-eqb _ _ (c .if1 .taken))
-
-element-set-from-paid : tie.Need-element-set-from-paid
-element-set-from-paid c = c .before .before .before .before .before .move-of .ensures .number
-
-element-write-b : tie.Need-element-write-b
-element-write-b c = c .before .before .before .before .before .before .before .move-of .ensures .place
 
 returns-2 : tie.Need-returns-2
 unfolding stepOf
@@ -25,23 +18,12 @@ pub step-spec : {M : Type 1} → statement M
 step-spec =
     tie.close
     (tie.spec
-    (λ c. search needs)
-    (λ c. search needs)
-    (λ c. search needs)
-    (λ c. search needs)
-    (λ c. search needs)
-    (λ c. search needs)
+    (λ c. search needs) (λ c. search needs) (λ c. search needs) (λ c. search needs) (λ c. search needs) (λ c. search needs)
     (λ c κs. search needs)
     returns
-    (λ c. search needs)
-    (λ c. search needs)
-    element-set-from-paid
-    (λ c. search needs)
-    (λ c. search needs)
-    (λ c. search needs)
-    (λ c. search needs)
-    element-write-b
-    (λ c. search needs)
-    (λ c. search needs)
-    (λ c κs. search needs)
+    (λ c. search needs) (λ c. search needs)
+    (λ c. c .before .before .before .before .before .move-of .ensures .number)
+    (λ c. search needs) (λ c. search needs) (λ c. search needs) (λ c. search needs)
+    (λ c. c .before .before .before .before .before .before .before .move-of .ensures .place)
+    (λ c. search needs) (λ c. search needs) (λ c κs. search needs)
     returns-2)

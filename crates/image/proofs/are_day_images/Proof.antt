@@ -15,9 +15,6 @@ Inv-loop l i₀ i = Rest isDayImage 400 l i
 abbrev μ-loop : tie.MeasureT-loop
 μ-loop l i₀ i = 400 - i
 
-loop-holds : tie.Need-loop-holds Inv-loop μ-loop
-loop-holds c = starts isDayImage 400 _ (search needs)
-
 returns : tie.Need-returns Inv-loop μ-loop
 returns c =
     let l = c .before .before .before .before .loop in
@@ -28,21 +25,15 @@ loop-again c =
     let l = c .before .before .before .before .loop in
     passes isDayImage 400 _ (l .i) _ (c .before .before .before .loop-test .taken) (sym (c .before .is-day-image .ensures) ∙ not-false _ (c .if1 .left)) (l .inv)
 
-returns-2 : tie.Need-returns-2 Inv-loop μ-loop
-returns-2 c = let l = c .before .loop in sym (none-left isDayImage 400 _ (l .i) (c .loop-test .left) (l .inv))
-
 pub are-day-images-spec : {M : Type 1} → statement M
 are-day-images-spec =
     tie.close
     (tie.spec
     Inv-loop
     μ-loop
-    loop-holds
-    (λ c. search needs)
-    (λ c. search needs)
-    (λ c κs. search needs)
+    (λ c. starts isDayImage 400 _ (search needs))
+    (search needs) (search needs) (search needs)
     returns
-    (λ c. search needs)
-    (λ c. search needs)
+    (search needs) (search needs)
     loop-again
-    returns-2)
+    (λ c. let l = c .before .loop in sym (none-left isDayImage 400 _ (l .i) (c .loop-test .left) (l .inv))))

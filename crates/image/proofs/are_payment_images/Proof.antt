@@ -15,9 +15,6 @@ Inv-loop l i₀ i = Rest isPaymentImage 128 l i
 abbrev μ-loop : tie.MeasureT-loop
 μ-loop l i₀ i = 128 - i
 
-loop-holds : tie.Need-loop-holds Inv-loop μ-loop
-loop-holds c = starts isPaymentImage 128 _ (search needs)
-
 returns : tie.Need-returns Inv-loop μ-loop
 unfolding isPaymentImage
 returns c =
@@ -30,20 +27,15 @@ loop-again c =
     let l = c .before .before .before .before .loop in
     passes isPaymentImage 128 _ (l .i) _ (c .before .before .before .loop-test .taken) (le-leb _ _ (c .if1 .left)) (l .inv)
 
-returns-2 : tie.Need-returns-2 Inv-loop μ-loop
-returns-2 c = let l = c .before .loop in sym (none-left isPaymentImage 128 _ (l .i) (c .loop-test .left) (l .inv))
-
 pub are-payment-images-spec : {M : Type 1} → statement M
 are-payment-images-spec =
     tie.close
     (tie.spec
     Inv-loop
     μ-loop
-    loop-holds
-    (λ c. search needs)
-    (λ c. search needs)
+    (λ c. starts isPaymentImage 128 _ (search needs))
+    (search needs) (search needs)
     returns
-    (λ c. search needs)
-    (λ c. search needs)
+    (search needs) (search needs)
     loop-again
-    returns-2)
+    (λ c. let l = c .before .loop in sym (none-left isPaymentImage 128 _ (l .i) (c .loop-test .left) (l .inv))))

@@ -16,16 +16,10 @@ Inv-loop l days₀ i₀ days i = Mapped dayOf 400 l days i
 abbrev μ-loop : tie.MeasureT-loop
 μ-loop l days₀ i₀ days i = 400 - i
 
-loop-holds : tie.Need-loop-holds Inv-loop μ-loop
-loop-holds c = begins dayOf 400 _ blankDay (search needs)
-
 loop-again : tie.Need-loop-again Inv-loop μ-loop
 loop-again c =
     let l = c .before .before .before .loop in
     turn dayOf 400 _ (l .days) (l .i) _ _ (c .before .before .loop-test .taken) (ap (λ (u : Usage). record { usage = u }) (c .usage-of .ensures)) (l .inv)
-
-returns : tie.Need-returns Inv-loop μ-loop
-returns c = let l = c .before .loop in ends dayOf 400 _ (l .days) (l .i) (c .loop-test .left) (l .inv)
 
 pub days-of-spec : {M : Type 1} → statement M
 days-of-spec =
@@ -33,13 +27,7 @@ days-of-spec =
     (tie.spec
     Inv-loop
     μ-loop
-    loop-holds
-    (λ c. search needs)
-    (λ c. search needs)
-    (λ c κs. search needs)
-    (λ c. search needs)
-    (λ c. search needs)
-    (λ c. search needs)
-    (λ c. search needs)
+    (λ c. begins dayOf 400 _ blankDay (search needs))
+    (search needs) (search needs) (search needs) (search needs) (search needs) (search needs) (search needs)
     loop-again
-    returns)
+    (λ c. let l = c .before .loop in ends dayOf 400 _ (l .days) (l .i) (c .loop-test .left) (l .inv)))

@@ -1,11 +1,9 @@
 use Rattle.image.proofs.flag.Statement.{statement}
 use Rattle.image.proofs.flag.Tie as tie
 
-returns : tie.Need-returns
-returns c = simp (c .if1 .taken)
-
-returns-2 : tie.Need-returns-2
-returns-2 c = simp (c .if1 .left)
-
 pub flag-spec : {M : Type 1} → statement M
-flag-spec = tie.close (tie.spec returns returns-2)
+flag-spec =
+    tie.close
+    (tie.spec
+    (λ c. simp (c .if1 .taken))
+    (λ c. simp (c .if1 .left)))

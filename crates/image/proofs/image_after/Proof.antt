@@ -15,4 +15,10 @@ unfolding imageAfter
 returns-2 c = c .image-of .ensures ∙ sym (yes _ _ _ (sym (c .before .before .is-image .ensures) ∙ not-false _ (c .before .if1 .left)))
 
 pub image-after-spec : {M : Type 1} → statement M
-image-after-spec = tie.close (tie.spec (λ c κs. search needs) returns (λ c κs. search needs) returns-2)
+image-after-spec =
+    tie.close
+    (tie.spec
+    (search needs)
+    returns
+    (search needs)
+    returns-2)

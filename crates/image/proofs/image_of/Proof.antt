@@ -11,4 +11,8 @@ returns c =
     λ k. record { totals = s .totals-image .ensures k; terms = a .terms; days = c .before .day-images .ensures k; marks = a .marks; warned = a .warned; payments = c .payment-images .ensures k; spare = 0; charges = a .charges }
 
 pub image-of-spec : {M : Type 1} → statement M
-image-of-spec = tie.close (tie.spec (λ c κs. search needs) (λ c κs. search needs) (λ c κs. search needs) returns)
+image-of-spec =
+    tie.close
+    (tie.spec
+    (search needs) (search needs) (search needs)
+    returns)

@@ -16,4 +16,9 @@ unfolding isDayImage
 returns-3 c = simp (ne-eqb _ _ (c .before .if1 .left))
 
 pub is-day-image-spec : {M : Type 1} → statement M
-is-day-image-spec = tie.close (tie.spec returns returns-2 returns-3)
+is-day-image-spec =
+    tie.close
+    (tie.spec
+    returns
+    returns-2
+    returns-3)

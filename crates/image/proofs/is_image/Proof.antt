@@ -29,4 +29,11 @@ returns-4 c =
 
 pub is-image-spec : {M : Type 1} → statement M
 is-image-spec =
-    tie.close (tie.spec returns returns-2 (λ c κs. search needs) returns-3 (λ c κs. search needs) returns-4)
+    tie.close
+    (tie.spec
+    returns
+    returns-2
+    (search needs)
+    returns-3
+    (search needs)
+    returns-4)

@@ -12,4 +12,8 @@ returns c =
     λ k. record { image = (c .image-of .ensures ∙ ap (λ (x : Opened). imageOf (x .account)) o) k; code = o k .code }
 
 pub open-spec : {M : Type 1} → statement M
-open-spec = tie.close (tie.spec (λ c κs. search needs) (λ c κs. search needs) returns)
+open-spec =
+    tie.close
+    (tie.spec
+    (search needs) (search needs)
+    returns)

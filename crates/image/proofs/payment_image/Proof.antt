@@ -10,4 +10,8 @@ unfolding paymentImage
 returns c = let p = c .before .args .p in ap (λ (k : ℕ). record { day = p .day; amount = p .amount; part = p .part; reversed = k }) (c .flag .ensures)
 
 pub payment-image-spec : {M : Type 1} → statement M
-payment-image-spec = tie.close (tie.spec (λ c κs. search needs) returns)
+payment-image-spec =
+    tie.close
+    (tie.spec
+    (search needs)
+    returns)

@@ -8,4 +8,7 @@ unfolding paymentOf
 returns c = refl
 
 pub payment-of-spec : {M : Type 1} → statement M
-payment-of-spec = tie.close (tie.spec returns)
+payment-of-spec =
+    tie.close
+    (tie.spec
+    returns)

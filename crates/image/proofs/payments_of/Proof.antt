@@ -14,16 +14,10 @@ Inv-loop l payments₀ i₀ payments i = Mapped paymentOf 128 l payments i
 abbrev μ-loop : tie.MeasureT-loop
 μ-loop l payments₀ i₀ payments i = 128 - i
 
-loop-holds : tie.Need-loop-holds Inv-loop μ-loop
-loop-holds c = begins paymentOf 128 _ noPayment (search needs)
-
 loop-again : tie.Need-loop-again Inv-loop μ-loop
 loop-again c =
     let l = c .before .before .before .loop in
     turn paymentOf 128 _ (l .payments) (l .i) _ _ (c .before .before .loop-test .taken) (c .payment-of .ensures) (l .inv)
-
-returns : tie.Need-returns Inv-loop μ-loop
-returns c = let l = c .before .loop in ends paymentOf 128 _ (l .payments) (l .i) (c .loop-test .left) (l .inv)
 
 pub payments-of-spec : {M : Type 1} → statement M
 payments-of-spec =
@@ -31,13 +25,7 @@ payments-of-spec =
     (tie.spec
     Inv-loop
     μ-loop
-    loop-holds
-    (λ c. search needs)
-    (λ c. search needs)
-    (λ c κs. search needs)
-    (λ c. search needs)
-    (λ c. search needs)
-    (λ c. search needs)
-    (λ c. search needs)
+    (λ c. begins paymentOf 128 _ noPayment (search needs))
+    (search needs) (search needs) (search needs) (search needs) (search needs) (search needs) (search needs)
     loop-again
-    returns)
+    (λ c. let l = c .before .loop in ends paymentOf 128 _ (l .payments) (l .i) (c .loop-test .left) (l .inv)))

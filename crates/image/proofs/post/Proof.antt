@@ -16,4 +16,8 @@ returns c =
     λ k. record { image = (c .image-after .ensures ∙ ap (λ (x : Posted). imageAfter (a .i) (x .account)) p) k; code = p k .code; value = p k .value }
 
 pub post-spec : {M : Type 1} → statement M
-post-spec = tie.close (tie.spec (λ c κs. search needs) (λ c κs. search needs) (λ c κs. search needs) returns)
+post-spec =
+    tie.close
+    (tie.spec
+    (search needs) (search needs) (search needs)
+    returns)

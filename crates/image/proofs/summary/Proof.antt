@@ -11,4 +11,8 @@ unfolding summaryIn
 returns c = c .summary .ensures .account ∙ ap (λ (x : Account). summaryOf x (c .before .before .args .m)) (c .before .account-of .ensures)
 
 pub summary-spec : {M : Type 1} → statement M
-summary-spec = tie.close (tie.spec (λ c κs. search needs) (λ c κs. search needs) returns)
+summary-spec =
+    tie.close
+    (tie.spec
+    (search needs) (search needs)
+    returns)

@@ -11,4 +11,8 @@ returns c = let s = c .before .args .s in
     ap (λ (k : ℕ). record { credit = s .credit; debit = s .debit; plan = s .plan; standing = s .standing; count = s .count; events = s .events; last = s .last; on = k }) (c .flag .ensures)
 
 pub totals-image-spec : {M : Type 1} → statement M
-totals-image-spec = tie.close (tie.spec (λ c κs. search needs) returns)
+totals-image-spec =
+    tie.close
+    (tie.spec
+    (search needs)
+    returns)

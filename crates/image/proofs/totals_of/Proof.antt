@@ -8,4 +8,7 @@ unfolding totalsOf
 returns c = refl
 
 pub totals-of-spec : {M : Type 1} → statement M
-totals-of-spec = tie.close (tie.spec returns)
+totals-of-spec =
+    tie.close
+    (tie.spec
+    returns)

@@ -16,4 +16,9 @@ unfolding usageOf
 returns-3 c = simp (ne-eqb _ _ (c .before .before .if1 .left), ne-eqb _ _ (c .if2 .left))
 
 pub usage-of-spec : {M : Type 1} → statement M
-usage-of-spec = tie.close (tie.spec returns returns-2 returns-3)
+usage-of-spec =
+    tie.close
+    (tie.spec
+    returns
+    returns-2
+    returns-3)

@@ -6,4 +6,8 @@ use Rattle.moves.proofs.accept.Statement.{statement}
 use Rattle.moves.proofs.accept.Tie as tie
 
 pub accept-spec : {M : Type 1} → statement M
-accept-spec = tie.close (tie.spec (λ c. search needs) (λ c. refl))
+accept-spec =
+    tie.close
+    (tie.spec
+    (search needs)
+    (λ c. refl))

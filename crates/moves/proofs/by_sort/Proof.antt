@@ -26,111 +26,75 @@ other c = elim (c .match .came) [
 known : (c : tie.Start) → Early (c .args .t) (c .args .m .totals) (c .args .e)
 known c = early _ _ _ (c .pre)
 
-pay-requires : tie.Need-pay-requires
-pay-requires c κs = (c .before .pre, c .match .keys1)
-
 returns : tie.Need-returns
 unfolding bySort
 returns c = c .pay .ensures ∙ sym (of-sort _ _ _ _ _ _ (c .before .match .keys1))
-
-reverse-requires : tie.Need-reverse-requires
-reverse-requires c κs = let k = known (c .before) in (k .room, k .debit, k .plan)
 
 returns-2 : tie.Need-returns-2
 unfolding bySort
 returns-2 c = c .reverse .ensures _ ∙ sym (of-sort _ _ _ _ _ _ (c .before .match .keys2))
 
-credit-requires : tie.Need-credit-requires
-credit-requires c κs = let k = known (c .before) in (k .room, k .credit)
-
 returns-3 : tie.Need-returns-3
 unfolding bySort creditOf
 returns-3 c = c .credit .ensures ∙ sym (of-sort _ _ _ _ _ _ (c .before .match .keys3))
-
-charge-requires : tie.Need-charge-requires
-charge-requires c κs = (c .before .pre, c .match .keys4)
 
 returns-4 : tie.Need-returns-4
 unfolding bySort
 returns-4 c = c .charge .ensures ∙ sym (of-sort _ _ _ _ _ _ (c .before .match .keys4))
 
-estimate-requires : tie.Need-estimate-requires
-estimate-requires c κs = (c .before .pre, c .match .keys5)
-
 returns-5 : tie.Need-returns-5
 unfolding bySort
 returns-5 c = c .estimate .ensures ∙ sym (of-sort _ _ _ _ _ _ (c .before .match .keys5))
-
-read-requires : tie.Need-read-requires
-read-requires c κs = (c .before .pre, c .match .keys6)
 
 returns-6 : tie.Need-returns-6
 unfolding bySort
 returns-6 c = c .read .ensures ∙ sym (of-sort _ _ _ _ _ _ (c .before .match .keys6))
 
-warn-requires : tie.Need-warn-requires
-warn-requires c κs = known (c .before) .room
-
 returns-7 : tie.Need-returns-7
 unfolding bySort warnOf
 returns-7 c = c .warn .ensures ∙ sym (of-sort _ _ _ _ _ _ (c .before .match .keys7))
-
-mark-requires : tie.Need-mark-requires
-mark-requires c κs = known (c .before) .room
 
 returns-8 : tie.Need-returns-8
 unfolding bySort markOf
 returns-8 c = c .mark .ensures ∙ sym (of-sort _ _ _ _ _ _ (c .before .match .keys8))
 
-plan-requires : tie.Need-plan-requires
-plan-requires c κs = (c .before .pre, c .match .keys9)
-
 returns-9 : tie.Need-returns-9
 unfolding bySort
 returns-9 c = c .plan .ensures ∙ sym (of-sort _ _ _ _ _ _ (c .before .match .keys9))
-
-disconnect-requires : tie.Need-disconnect-requires
-disconnect-requires c κs = (c .before .pre, c .match .keys10)
 
 returns-10 : tie.Need-returns-10
 unfolding bySort
 returns-10 c = c .disconnect .ensures ∙ sym (of-sort _ _ _ _ _ _ (c .before .match .keys10))
 
-connect-requires : tie.Need-connect-requires
-connect-requires c κs = (c .before .pre, c .match .keys11)
-
 returns-11 : tie.Need-returns-11
 unfolding bySort
 returns-11 c = c .connect .ensures ∙ sym (of-sort _ _ _ _ _ _ (c .before .match .keys11))
-
-returns-12 : tie.Need-returns-12
-returns-12 c = absurd (no-other _ (known (c .before .before) .limits) (other (c .before)))
 
 pub by-sort-spec : {M : Type 1} → statement M
 by-sort-spec =
     tie.close
     (tie.spec
-    pay-requires
+    (λ c κs. (c .before .pre, c .match .keys1))
     returns
-    reverse-requires
+    (λ c κs. let k = known (c .before) in (k .room, k .debit, k .plan))
     returns-2
-    credit-requires
+    (λ c κs. let k = known (c .before) in (k .room, k .credit))
     returns-3
-    charge-requires
+    (λ c κs. (c .before .pre, c .match .keys4))
     returns-4
-    estimate-requires
+    (λ c κs. (c .before .pre, c .match .keys5))
     returns-5
-    read-requires
+    (λ c κs. (c .before .pre, c .match .keys6))
     returns-6
-    warn-requires
+    (λ c κs. known (c .before) .room)
     returns-7
-    mark-requires
+    (λ c κs. known (c .before) .room)
     returns-8
-    plan-requires
+    (λ c κs. (c .before .pre, c .match .keys9))
     returns-9
-    disconnect-requires
+    (λ c κs. (c .before .pre, c .match .keys10))
     returns-10
-    connect-requires
+    (λ c κs. (c .before .pre, c .match .keys11))
     returns-11
-    (λ c κs. search needs)
-    returns-12)
+    (search needs)
+    (λ c. absurd (no-other _ (known (c .before .before) .limits) (other (c .before)))))

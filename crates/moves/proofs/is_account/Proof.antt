@@ -49,4 +49,12 @@ returns-6 c =
 
 pub is-account-spec : {M : Type 1} → statement M
 is-account-spec =
-    tie.close (tie.spec (λ c κs. search needs) returns returns-2 returns-3 returns-4 returns-5 returns-6)
+    tie.close
+    (tie.spec
+    (search needs)
+    returns
+    returns-2
+    returns-3
+    returns-4
+    returns-5
+    returns-6)

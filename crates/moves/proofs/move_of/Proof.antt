@@ -36,11 +36,7 @@ pub move-of-spec : {M : Type 1} → statement M
 move-of-spec =
     tie.close
     (tie.spec
-    (λ c. search needs)
-    (λ c. search needs)
-    (λ c. search needs)
-    (λ c κs. search needs)
-    (λ c κs. search needs)
+    (search needs) (search needs) (search needs) (search needs) (search needs)
     returns
-    (λ c κs. search needs)
+    (search needs)
     returns-2)

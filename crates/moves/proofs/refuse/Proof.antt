@@ -5,4 +5,7 @@ use Rattle.moves.proofs.refuse.Statement.{statement}
 use Rattle.moves.proofs.refuse.Tie as tie
 
 pub refuse-spec : {M : Type 1} → statement M
-refuse-spec = tie.close (tie.spec (λ c. refl))
+refuse-spec =
+    tie.close
+    (tie.spec
+    (λ c. refl))

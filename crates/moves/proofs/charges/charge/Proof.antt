@@ -20,27 +20,9 @@ month c = rw (c .month-of .ensures) (month-on _ _ _ (known (c .before .before)))
 place : (c : tie.After-month-of) → 5 * c .month-of .result + (c .before .before .args .e .kind - 1) < 75
 place c = let f = fields (c .before .before) in omega (arith, month c)
 
-mul-place : tie.Need-mul-place
-mul-place c = omega (arith, month c)
-
-sub-place : tie.Need-sub-place
-sub-place c = fields (c .before .before .before) .kind .least
-
-add-place : tie.Need-add-place
-add-place c = omega (arith, place (c .before))
-
-element-copy-out-sum : tie.Need-element-copy-out-sum
-element-copy-out-sum c = omega (arith, place (c .before))
-
 returns : tie.Need-returns
 unfolding chargeOf
 returns c = rw (← c .before .before .before .before .month-of .ensures, lt-ltb _ _ (c .before .if1 .taken)) (c .refuse .ensures)
-
-add-n : tie.Need-add-n
-add-n c = let k = known (c .before .before .before .before .before .before .before .before .before) in omega arith
-
-accept-requires : tie.Need-accept-requires
-accept-requires c κs = known (c .before .before .before .before .before .before .before .before .before) .room
 
 returns-2 : tie.Need-returns-2
 unfolding chargeOf
@@ -50,18 +32,15 @@ pub charge-spec : {M : Type 1} → statement M
 charge-spec =
     tie.close
     (tie.spec
-    (λ c κs. search needs)
-    mul-place
-    sub-place
-    add-place
-    (λ c. search needs)
-    (λ c. search needs)
-    element-copy-out-sum
-    (λ c κs. search needs)
+    (search needs)
+    (λ c. omega (arith, month c))
+    (λ c. fields (c .before .before .before) .kind .least)
+    (λ c. omega (arith, place (c .before)))
+    (search needs) (search needs)
+    (λ c. omega (arith, place (c .before)))
+    (search needs)
     returns
-    (λ c. search needs)
-    (λ c. search needs)
-    (λ c. search needs)
-    add-n
-    accept-requires
+    (search needs) (search needs) (search needs)
+    (λ c. let k = known (c .before .before .before .before .before .before .before .before .before) in omega arith)
+    (λ c κs. known (c .before .before .before .before .before .before .before .before .before) .room)
     returns-2)

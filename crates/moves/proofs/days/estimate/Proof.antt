@@ -42,22 +42,13 @@ returns : tie.Need-returns
 unfolding estimateOf
 returns c = rw (le-leb _ _ (c .before .if1 .taken)) (c .refuse .ensures)
 
+enum-told : tie.Need-enum-told
+enum-told c = search needs
+
 returns-2 : tie.Need-returns-2
 returns-2 c = let s = c .before .before .before .before .before in
     let u = s .args .m .day .usage in
     c .refuse2 .ensures ∙ sym (state s u (lt-leb _ _ (c .before .before .before .if1 .left)) refl ∙ taken u (estimatedOf (s .args .t) (s .args .m) (s .args .e)) (refusing (s .args .m) 8) (c .before .match .keys2))
-
-cast-t10 : tie.Need-cast-t10
-cast-t10 c = omega (arith, cost c)
-
-add-n : tie.Need-add-n
-add-n c = let k = known (c .before .before .before .before .before .before .before .before) in omega (arith, cost (c .before .before))
-
-add-n-2 : tie.Need-add-n-2
-add-n-2 c = let k = known (c .before .before .before .before .before .before .before .before .before) in omega (arith, cost (c .before .before .before))
-
-accept-requires : tie.Need-accept-requires
-accept-requires c κs = known (c .before .before .before .before .before .before .before .before .before) .room
 
 returns-3 : tie.Need-returns-3
 unfolding estimatedOf
@@ -67,14 +58,14 @@ pub estimate-spec : {M : Type 1} → statement M
 estimate-spec =
     tie.close
     (tie.spec
-    (λ c κs. search needs)
+    (search needs)
     returns
-    (λ c. search needs)
-    (λ c κs. search needs)
+    enum-told
+    (search needs)
     returns-2
-    (λ c κs. search needs)
-    cast-t10
-    add-n
-    add-n-2
-    accept-requires
+    (search needs)
+    (λ c. omega (arith, cost c))
+    (λ c. let k = known (c .before .before .before .before .before .before .before .before) in omega (arith, cost (c .before .before)))
+    (λ c. let k = known (c .before .before .before .before .before .before .before .before .before) in omega (arith, cost (c .before .before .before)))
+    (λ c κs. known (c .before .before .before .before .before .before .before .before .before) .room)
     returns-3)

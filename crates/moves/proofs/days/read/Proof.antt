@@ -37,21 +37,6 @@ returns : tie.Need-returns
 unfolding readOf
 returns c = rw (le-leb _ _ (c .before .if1 .taken)) (c .refuse .ensures)
 
-returns-2 : tie.Need-returns-2
-returns-2 c = c .refuse2 .ensures ∙ sym (state (c .before .before .before .before .before .before) _ (lt-leb _ _ (c .before .before .before .before .if1 .left)) (c .before .enum-told2 .given .1))
-
-cast-t13 : tie.Need-cast-t13
-cast-t13 c = omega (arith, cost c)
-
-add-n : tie.Need-add-n
-add-n c = let k = known (c .before .before .before .before .before .before .before .before) in omega arith
-
-add-n-2 : tie.Need-add-n-2
-add-n-2 c = let k = known (c .before .before .before .before .before .before .before .before .before) in omega (arith, cost (c .before .before .before .before))
-
-accept-requires : tie.Need-accept-requires
-accept-requires c κs = known (c .before .before .before .before .before .before .before .before .before .before) .room
-
 returns-3 : tie.Need-returns-3
 unfolding meteredOf
 returns-3 c = rw (metered (c .before .before .before .before .before .before .before), ← c .before .before .before .before .before .before .cost .ensures, ← c .before .less .ensures) (c .accept .ensures)
@@ -60,17 +45,14 @@ pub read-spec : {M : Type 1} → statement M
 read-spec =
     tie.close
     (tie.spec
-    (λ c κs. search needs)
+    (search needs)
     returns
-    (λ c. search needs)
-    (λ c. search needs)
-    (λ c. search needs)
-    (λ c κs. search needs)
-    returns-2
-    (λ c κs. search needs)
-    cast-t13
-    add-n
-    add-n-2
-    (λ c κs. search needs)
-    accept-requires
+    (search needs) (search needs) (search needs) (search needs)
+    (λ c. c .refuse2 .ensures ∙ sym (state (c .before .before .before .before .before .before) _ (lt-leb _ _ (c .before .before .before .before .if1 .left)) (c .before .enum-told2 .given .1)))
+    (search needs)
+    (λ c. omega (arith, cost c))
+    (λ c. let k = known (c .before .before .before .before .before .before .before .before) in omega arith)
+    (λ c. let k = known (c .before .before .before .before .before .before .before .before .before) in omega (arith, cost (c .before .before .before .before)))
+    (search needs)
+    (λ c κs. known (c .before .before .before .before .before .before .before .before .before .before) .room)
     returns-3)

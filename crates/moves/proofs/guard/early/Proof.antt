@@ -68,11 +68,11 @@ pub early-spec : {M : Type 1} → statement M
 early-spec =
     tie.close
     (tie.spec
-    (λ c κs. search needs)
+    (search needs)
     returns
     returns-2
     returns-3
-    (λ c κs. search needs)
+    (search needs)
     returns-4
     returns-5
     returns-6)

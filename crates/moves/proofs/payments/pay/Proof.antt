@@ -19,18 +19,6 @@ returns : tie.Need-returns
 unfolding payOf
 returns c = rw (le-leb _ _ (c .before .if1 .taken)) (c .refuse .ensures)
 
-plan-part-requires : tie.Need-plan-part-requires
-plan-part-requires c κs = known (c .before .before) .share
-
-sub-n : tie.Need-sub-n
-sub-n c = part c
-
-add-n : tie.Need-add-n
-add-n c = let k = known (c .before .before .before .before) in omega arith
-
-accept-requires : tie.Need-accept-requires
-accept-requires c κs = known (c .before .before .before .before .before) .room
-
 returns-2 : tie.Need-returns-2
 unfolding payOf
 returns-2 c = rw (lt-leb _ _ (c .before .before .before .before .if1 .left), ← c .before .before .before .plan-part .ensures) (c .accept .ensures)
@@ -39,15 +27,12 @@ pub pay-spec : {M : Type 1} → statement M
 pay-spec =
     tie.close
     (tie.spec
-    (λ c κs. search needs)
+    (search needs)
     returns
-    plan-part-requires
-    sub-n
-    (λ c. search needs)
-    add-n
-    (λ c. search needs)
-    (λ c. search needs)
-    (λ c. search needs)
-    (λ c. search needs)
-    accept-requires
+    (λ c κs. known (c .before .before) .share)
+    (λ c. part c)
+    (search needs)
+    (λ c. let k = known (c .before .before .before .before) in omega arith)
+    (search needs) (search needs) (search needs) (search needs)
+    (λ c κs. known (c .before .before .before .before .before) .room)
     returns-2)

@@ -10,14 +10,12 @@ use Rattle.moves.proofs.payments.plan_part.Tie as tie
 product : (c : tie.Start) → c .args .amount * c .args .share ≤ 4294967295 * 50
 product c = mul-le-mul {n₂ = 4294967295} {m₂ = 50} (omega arith) (c .pre)
 
-mul-shared : tie.Need-mul-shared
-mul-shared c = omega (arith, product c)
-
-cast-result : tie.Need-cast-result
-cast-result c = omega (arith, product (c .before))
-
-cast-result-2 : tie.Need-cast-result-2
-cast-result-2 c = omega (arith, product (c .before))
-
 pub plan-part-spec : {M : Type 1} → statement M
-plan-part-spec = tie.close (tie.spec mul-shared cast-result (λ c. search needs) cast-result-2 (λ c. search needs))
+plan-part-spec =
+    tie.close
+    (tie.spec
+    (λ c. omega (arith, product c))
+    (λ c. omega (arith, product (c .before)))
+    (search needs)
+    (λ c. omega (arith, product (c .before)))
+    (search needs))

@@ -22,15 +22,9 @@ pub reverse-spec : {M : Type 1} → statement M
 reverse-spec =
     tie.close
     (tie.spec
-    (λ c κs. search needs)
+    (search needs)
     returns
-    (λ c κs. search needs)
+    (search needs)
     returns-2
-    (λ c. search needs)
-    (λ c. search needs)
-    (λ c κs. search needs)
-    (λ c. search needs)
-    (λ c. search needs)
-    (λ c. search needs)
-    (λ c κs. search needs)
+    (search needs) (search needs) (search needs) (search needs) (search needs) (search needs) (search needs)
     returns-3)

@@ -15,15 +15,9 @@ returns : tie.Need-returns
 unfolding connectOf
 returns c = c .refuse .ensures ∙ sym (yes _ _ _ (c .before .if1 .taken))
 
-add-if2 : tie.Need-add-if2
-add-if2 c = let k = known (c .before .before .before) in omega arith
-
 returns-2 : tie.Need-returns-2
 unfolding connectOf
 returns-2 c = c .refuse2 .ensures ∙ sym (no _ _ _ (c .before .before .before .before .before .if1 .left) ∙ yes _ _ _ (lt-ltb _ _ (c .before .if2 .taken)))
-
-served-requires : tie.Need-served-requires
-served-requires c κs = known (c .before .before .before .before .before) .room
 
 returns-3 : tie.Need-returns-3
 unfolding connectOf servedOf
@@ -33,11 +27,11 @@ pub connect-spec : {M : Type 1} → statement M
 connect-spec =
     tie.close
     (tie.spec
-    (λ c κs. search needs)
+    (search needs)
     returns
-    (λ c. search needs)
-    add-if2
-    (λ c κs. search needs)
+    (search needs)
+    (λ c. let k = known (c .before .before .before) in omega arith)
+    (search needs)
     returns-2
-    served-requires
+    (λ c κs. known (c .before .before .before .before .before) .room)
     returns-3)

@@ -32,25 +32,16 @@ returns : tie.Need-returns
 unfolding disconnectOf
 returns c = c .refuse .ensures ∙ sym (yes _ _ _ (c .before .if1 .taken))
 
-add-if2 : tie.Need-add-if2
-add-if2 c = let k = known (c .before .before .before .before) in omega arith
-
 returns-2 : tie.Need-returns-2
 unfolding disconnectOf
 returns-2 c = c .refuse2 .ensures ∙ sym (no _ _ _ (c .before .before .before .before .before .if1 .left) ∙ yes _ _ _ (le-leb _ _ (c .before .if2 .taken)))
 
+enum-told : tie.Need-enum-told
+enum-told c = search needs
+
 returns-3 : tie.Need-returns-3
 unfolding disconnectOf
 returns-3 c = c .refuse3 .ensures ∙ sym (no _ _ _ (c .before .before .before .before .before .before .before .before .if1 .left) ∙ no _ _ _ (lt-leb _ _ (c .before .before .before .before .if2 .left)) ∙ yes _ _ _ (ap isMissing (sym (c .before .before .before .latest .ensures) ∙ c .before .enum-told2 .given .1)))
-
-returns-4 : tie.Need-returns-4
-returns-4 c = c .refuse4 .ensures ∙ sym (warning (c .before .before .before .before) ∙ yes _ _ _ (weekend (c .before)))
-
-returns-5 : tie.Need-returns-5
-returns-5 c = c .refuse5 .ensures ∙ sym (warning (c .before .before .before .before .before .before) ∙ yes _ _ _ (on-weekday (c .before .before .before) ∙ sym (c .before .before .barring .ensures) ∙ c .before .if4 .taken))
-
-served-requires : tie.Need-served-requires
-served-requires c κs = known (start (c .before .before .before .before .before)) .room
 
 returns-6 : tie.Need-returns-6
 unfolding servedOf
@@ -60,22 +51,19 @@ pub disconnect-spec : {M : Type 1} → statement M
 disconnect-spec =
     tie.close
     (tie.spec
-    (λ c κs. search needs)
+    (search needs)
     returns
-    (λ c. search needs)
-    add-if2
-    (λ c κs. search needs)
+    (search needs)
+    (λ c. let k = known (c .before .before .before .before) in omega arith)
+    (search needs)
     returns-2
-    (λ c κs. search needs)
-    (λ c. search needs)
-    (λ c. search needs)
-    (λ c κs. search needs)
+    (search needs)
+    enum-told
+    (search needs) (search needs)
     returns-3
-    (λ c κs. search needs)
-    (λ c κs. search needs)
-    returns-4
-    (λ c κs. search needs)
-    (λ c κs. search needs)
-    returns-5
-    served-requires
+    (search needs) (search needs)
+    (λ c. c .refuse4 .ensures ∙ sym (warning (c .before .before .before .before) ∙ yes _ _ _ (weekend (c .before))))
+    (search needs) (search needs)
+    (λ c. c .refuse5 .ensures ∙ sym (warning (c .before .before .before .before .before .before) ∙ yes _ _ _ (on-weekday (c .before .before .before) ∙ sym (c .before .before .barring .ensures) ∙ c .before .if4 .taken)))
+    (λ c κs. known (start (c .before .before .before .before .before)) .room)
     returns-6)

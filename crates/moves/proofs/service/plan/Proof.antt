@@ -26,9 +26,6 @@ below false w credit debit h = omega (arith, ltb-true credit debit h)
 debt : (c : tie.Else1) → let s = c .before .before .before .args .m .totals in s .credit ≤ s .debit
 debt c = let s = c .before .before .before .args in below (eqb (s .e .kind) 1) (weatherNear (now (s .marks)) (weekdayOn (s .t .opened) (s .e .day)) (s .e .day)) _ _ (sym (c .before .allowed .ensures) ∙ not-false _ (c .if1 .left))
 
-allowed-requires : tie.Need-allowed-requires
-allowed-requires c κs = known (c .before) .credit
-
 returns : tie.Need-returns
 unfolding planOf
 returns c = c .refuse .ensures ∙ sym (no _ _ _ (sym (c .before .before .allowed .ensures) ∙ not-true _ (c .before .if1 .taken)))
@@ -36,21 +33,6 @@ returns c = c .refuse .ensures ∙ sym (no _ _ _ (sym (c .before .before .allowe
 returns-2 : tie.Need-returns-2
 unfolding planOf deferredOf
 returns-2 c = c .refuse2 .ensures ∙ sym (yes _ _ _ (sym (c .before .before .before .before .allowed .ensures) ∙ not-false _ (c .before .before .before .if1 .left)) ∙ yes _ _ _ (lt-ltb _ _ (c .before .if2 .taken)))
-
-add-d : tie.Need-add-d
-add-d c = let k = known (c .before .before .before .before .before .before .before) in omega arith
-
-sub-d : tie.Need-sub-d
-sub-d c = omega (arith, debt (c .before .before .before .before .before))
-
-add-n : tie.Need-add-n
-add-n c = let k = known (c .before .before .before .before .before .before .before .before .before) in omega arith
-
-add-n-2 : tie.Need-add-n-2
-add-n-2 c = let k = known (c .before .before .before .before .before .before .before .before .before .before) in omega arith
-
-accept-requires : tie.Need-accept-requires
-accept-requires c κs = known (c .before .before .before .before .before .before .before .before .before .before) .room
 
 returns-3 : tie.Need-returns-3
 unfolding planOf deferredOf
@@ -60,15 +42,15 @@ pub plan-spec : {M : Type 1} → statement M
 plan-spec =
     tie.close
     (tie.spec
-    allowed-requires
-    (λ c κs. search needs)
+    (λ c κs. known (c .before) .credit)
+    (search needs)
     returns
-    (λ c κs. search needs)
+    (search needs)
     returns-2
-    (λ c. search needs)
-    add-d
-    sub-d
-    add-n
-    add-n-2
-    accept-requires
+    (search needs)
+    (λ c. let k = known (c .before .before .before .before .before .before .before) in omega arith)
+    (λ c. omega (arith, debt (c .before .before .before .before .before)))
+    (λ c. let k = known (c .before .before .before .before .before .before .before .before .before) in omega arith)
+    (λ c. let k = known (c .before .before .before .before .before .before .before .before .before .before) in omega arith)
+    (λ c κs. known (c .before .before .before .before .before .before .before .before .before .before) .room)
     returns-3)
