@@ -13,11 +13,11 @@ use Rattle.terms.specs.Terms.{termsCode}
 use Rattle.terms.specs.declared.Terms.{Terms}
 use Rattle.ledger.specs.declared.Event.{Event}
 use Rattle.ledger.specs.Event.{isPay, isEstimate, isRead, inLimits}
-use Rattle.ledger.specs.Entries.{costIn, Entries, lastDay, payments, usageDay, estimateCost}
+use Rattle.ledger.specs.Entries.{usageCost, Entries, lastDay, paymentCount, usageDay, estimateCost}
 use Rattle.ledger.specs.Rules.{Ledger}
-use Rattle.ledger.specs.Sums.{standing}
+use Rattle.ledger.specs.Sums.{standingCost}
 use Rattle.ledger.specs.Months.{chargesIn}
-use Rattle.ledger.specs.Ledger.{Move, Outcome, moveOf, moved, answer, refusal, accepts, ledgerStep}
+use Rattle.ledger.specs.Ledger.{Effect, Outcome, effectOf, joined, answer, refusal, accepts, ledgerStep}
 use Rattle.ledger.proofs.Cases.{neither}
 use Rattle.ledger.proofs.Accepted.{Accepted, accepted-by}
 use Rattle.ledger.specs.Invariant.{Invariant}
@@ -28,7 +28,7 @@ use Rattle.account.specs.declared.Account.{Account}
 use Rattle.moves.specs.declared.Totals.{Totals}
 use Rattle.account.specs.declared.Posted.{Posted}
 use Rattle.moves.proofs.Early.{Early, early}
-use Rattle.refinement.specs.Agree.{Agree, Sums, Bounds, Kept, Sizes, Same, usageOf, paymentOf, marksOf, warnedOn}
+use Rattle.refinement.specs.Agree.{Agree, Sums, Bounds, Kept, Sizes, Same, recordedUsage, recordedPayment, recordedMarks, warnedOn}
 use Rattle.refinement.proofs.Refusals.{Passes, refuses}
 use Rattle.refinement.proofs.Keeps.{amounts-keep, charged-keep, held-keep}
 
@@ -64,21 +64,21 @@ module _ (t : Terms) (a : Account) (l : Ledger) (g : Agree t a l) where
         taken = accepted-by t l e (eq-eqb (refusal t l e) 0 z)
 
         -- the standing estimates after the event
-        pub standing-is : (p : ℕ) → standing t (record { event = e; part = p } ∷ l .list) + cond (isRead e) (estimateCost (usageDay t (l .list) (e .usage))) 0
-            ≡ standing t (l .list) + cond (isEstimate e) (costIn t (l .list) e) 0
+        pub standing-is : (p : ℕ) → standingCost t (record { event = e; part = p } ∷ l .list) + cond (isRead e) (estimateCost (usageDay t (l .list) (e .usage))) 0
+            ≡ standingCost t (l .list) + cond (isEstimate e) (usageCost t (l .list) e) 0
         standing-is p = standing-then t l e p s taken
 
-        pub standing-still : (p : ℕ) → isRead e ≡ false → isEstimate e ≡ false → standing t (l .list) ≡ standing t (record { event = e; part = p } ∷ l .list)
+        pub standing-still : (p : ℕ) → isRead e ≡ false → isEstimate e ≡ false → standingCost t (l .list) ≡ standingCost t (record { event = e; part = p } ∷ l .list)
         standing-still p r i = omega (arith, simp (r, i) at (standing-is p))
 
         -- where the sums, the bounds and what is kept are right after the move, the account and the ledger agree again
-        pub agreed : (b : Account) (m : Move) → b .terms ≡ t → Sums t (b .totals) (moved l e m) → Bounds (b .totals) → Sizes b
-            → ((n : ℕ) → n < payments (moved l e m .list) → getD (b .payments) n noPayment ≡ paymentOf n (moved l e m .list))
-            → ((u : ℕ) → u < 400 → getD (b .days) u blankDay .usage ≡ usageOf (usageDay t (moved l e m .list) u))
-            → ((d : ℕ) → d < 400 → getD (b .marks) d 0 ≡ marksOf d (moved l e m .list))
-            → ((d : ℕ) → d < 400 → getD (b .warned) d 0 ≡ cond (warnedOn d (moved l e m .list)) 1 0)
-            → ((i k : ℕ) → i < 15 → k < 5 → getD (b .charges) (5 * i + k) 0 ≡ chargesIn t i (suc k) (moved l e m .list))
-            → Agree t b (moved l e m)
+        pub agreed : (b : Account) (m : Effect) → b .terms ≡ t → Sums t (b .totals) (joined l e m) → Bounds (b .totals) → Sizes b
+            → ((n : ℕ) → n < paymentCount (joined l e m .list) → getD (b .payments) n noPayment ≡ recordedPayment (joined l e m .list) n)
+            → ((u : ℕ) → u < 400 → getD (b .days) u blankDay .usage ≡ recordedUsage (usageDay t (joined l e m .list) u))
+            → ((d : ℕ) → d < 400 → getD (b .marks) d 0 ≡ recordedMarks (joined l e m .list) d)
+            → ((d : ℕ) → d < 400 → getD (b .warned) d 0 ≡ cond (warnedOn (joined l e m .list) d) 1 0)
+            → ((i k : ℕ) → i < 15 → k < 5 → getD (b .charges) (5 * i + k) 0 ≡ chargesIn t (joined l e m .list) i (suc k))
+            → Agree t b (joined l e m)
         agreed b m q sums bounds sizes ps ds ms ws cs = record {
           terms = q;
           valid = g .valid;

@@ -15,11 +15,11 @@ use Rattle.calendar.specs.Calendar.{isDay, opens, monthOn}
 use Rattle.calendar.proofs.Laws.{month-limit}
 use Rattle.terms.specs.declared.Terms.{Terms}
 use Rattle.ledger.specs.declared.Event.{Event}
-use Rattle.ledger.specs.Entries.{Entries, lastDay, payments, payment, reversed}
+use Rattle.ledger.specs.Entries.{Entries, lastDay, paymentCount, payment, reversed}
 use Rattle.ledger.specs.Rules.{Ledger}
-use Rattle.ledger.specs.Sums.{standing}
+use Rattle.ledger.specs.Sums.{standingCost}
 use Rattle.ledger.specs.Months.{monthOf}
-use Rattle.ledger.specs.Ledger.{Move, planPart, payMove, reverseMove, balanceMove, moved, refusal, ledgerStep}
+use Rattle.ledger.specs.Ledger.{Effect, planPart, payEffect, reverseEffect, balanceEffect, joined, refusal, ledgerStep}
 use Rattle.ledger.proofs.Cases.{decide, neither}
 use Rattle.ledger.proofs.Money.{diff, diff-add, diff-sub}
 use Rattle.ledger.specs.Invariant.{Invariant}
@@ -28,7 +28,7 @@ use Rattle.account.specs.Head.{payOf, reverseOf, creditOf, chargeOf, partOf, pa
 use Rattle.account.specs.declared.Account.{Account}
 use Rattle.moves.specs.declared.Payment.{Payment}
 use Rattle.moves.proofs.Early.{amount-limits, charge-limits}
-use Rattle.refinement.specs.Agree.{Agree, Sums, Bounds, Sizes, Same, paymentOf}
+use Rattle.refinement.specs.Agree.{Agree, Sums, Bounds, Sizes, Same, recordedPayment}
 use Rattle.refinement.proofs.Fields.{payments-same, payments-one}
 use Rattle.refinement.proofs.Refusals.{Passes, pay-code, reverse-code, credit-code, charge-code, takes, pay-move, reverse-move, credit-move, charge-move}
 use Rattle.refinement.proofs.Keeps.{payments-stay, days-stay, marks-stay, warned-stay, charges-stay, charges-set, payments-set, payments-reverse}
@@ -39,26 +39,26 @@ module _ (t : Terms) (a : Account) (l : Ledger) (e : Event) (g : Agree t a l) (s
   unfolding planPart
   part-is = rw (g .terms, g .sums .plan) refl
 
-  unreversed : reversed (payments (l .list)) (l .list) ≡ false
-  unreversed = decide (reversed (payments (l .list)) (l .list)) (λ r. absurd (omega (arith, s .numbers _ r))) (λ f. f)
+  unreversed : reversed (l .list) (paymentCount (l .list)) ≡ false
+  unreversed = decide (reversed (l .list) (paymentCount (l .list))) (λ r. absurd (omega (arith, s .numbers _ r))) (λ f. f)
 
   room : a .totals .events + 1 ≤ 4096
   room = omega (arith, facts t a l g e h .room)
 
   pub pay-same : e .sort ≡ 1 → Same t (payOf a e) (ledgerStep t l e)
-  unfolding payOf payMove lastDay
-  pay-same k = decide (leb 128 (payments (l .list)))
+  unfolding payOf payEffect lastDay
+  pay-same k = decide (leb 128 (paymentCount (l .list)))
       (λ y. let y′ : leb 128 (a .totals .count) ≡ true = rw (g .sums .count) y in
       simp y′ (refused-same t a l g e 5 (pay-code t l e h k ∙ simp y) refl))
       (λ f. let f′ : leb 128 (a .totals .count) ≡ false = rw (g .sums .count) f in
       let z : refusal t l e ≡ 0 = pay-code t l e h k ∙ simp f in
       let p : ℕ = planPart t l (e .amount) in
       let limit = amount-limits e (inl k) (h .limits) in
-      simp f′ (rw (takes t l e (payMove t l e) z (pay-move t l e k))
+      simp f′ (rw (takes t l e (payEffect t l e) z (pay-move t l e k))
       (record {
         code = refl;
         value = g .sums .count;
-        again = agreed t a l g e h s z _ (payMove t l e) (g .terms)
+        again = agreed t a l g e h s z _ (payEffect t l e) (g .terms)
             (record {
               events = omega (arith, g .sums .events);
               last = refl;
@@ -79,7 +79,7 @@ module _ (t : Terms) (a : Account) (l : Ledger) (e : Event) (g : Agree t a l) (s
               standing = omega (arith, g .bounds .standing);
             })
             (record { payments = simp length-set (g .sizes .payments); days = g .sizes .days; marks = g .sizes .marks; warned = g .sizes .warned; charges = g .sizes .charges })
-            (rw (part-is, g .sums .count) (payments-set t a e p (l .list) (g .kept) (rw k refl) (rw k refl) (g .sizes .payments) (leb-false 128 (payments (l .list)) f) unreversed))
+            (rw (part-is, g .sums .count) (payments-set t a e p (l .list) (g .kept) (rw k refl) (rw k refl) (g .sizes .payments) (leb-false 128 (paymentCount (l .list)) f) unreversed))
             (days-stay t a e p (l .list) (g .kept) (rw k refl) (rw k refl))
             (marks-stay t a e p (l .list) (g .kept) (rw k refl))
             (warned-stay t a e p (l .list) (g .kept) (rw k refl))
@@ -87,24 +87,24 @@ module _ (t : Terms) (a : Account) (l : Ledger) (e : Event) (g : Agree t a l) (s
       })))
 
   -- the payment that is reversed, as both have it
-  payment-is : e .number < payments (l .list) → paymentAt a e ≡ paymentOf (e .number) (l .list)
+  payment-is : e .number < paymentCount (l .list) → paymentAt a e ≡ recordedPayment (l .list) (e .number)
   payment-is y = g .kept .payments (e .number) y
 
-  reversing-same : e .sort ≡ 2 → leb (payments (l .list)) (e .number) ≡ false → reversed (e .number) (l .list) ≡ false → Same t (reverseOf a e) (ledgerStep t l e)
-  unfolding reverseOf reverseMove lastDay
+  reversing-same : e .sort ≡ 2 → leb (paymentCount (l .list)) (e .number) ≡ false → reversed (l .list) (e .number) ≡ false → Same t (reverseOf a e) (ledgerStep t l e)
+  unfolding reverseOf reverseEffect lastDay
   reversing-same k f r =
       let f′ : leb (a .totals .count) (e .number) ≡ false = rw (g .sums .count) f in
-      let y : e .number < payments (l .list) = leb-false (payments (l .list)) (e .number) f in
-      let q : paymentAt a e ≡ paymentOf (e .number) (l .list) = payment-is y in
+      let y : e .number < paymentCount (l .list) = leb-false (paymentCount (l .list)) (e .number) f in
+      let q : paymentAt a e ≡ recordedPayment (l .list) (e .number) = payment-is y in
       let r′ : paymentAt a e .reversed ≡ false = ap (λ (x : Payment). x .reversed) q ∙ r in
-      let old = payment (e .number) (l .list) in
+      let old = payment (l .list) (e .number) in
       let back : ℕ = old .event .amount - old .part in
       let z : refusal t l e ≡ 0 = reverse-code t l e h k ∙ simp (f, r) in
-      simp (f′, r′) (rw (takes t l e (reverseMove l e) z (reverse-move t l e k))
+      simp (f′, r′) (rw (takes t l e (reverseEffect l e) z (reverse-move t l e k))
       (record {
         code = refl;
         value = refl;
-        again = agreed t a l g e h s z _ (reverseMove l e) (g .terms)
+        again = agreed t a l g e h s z _ (reverseEffect l e) (g .terms)
             (record {
               events = omega (arith, g .sums .events);
               last = refl;
@@ -134,12 +134,12 @@ module _ (t : Terms) (a : Account) (l : Ledger) (e : Event) (g : Agree t a l) (s
 
   pub reverse-same : e .sort ≡ 2 → Same t (reverseOf a e) (ledgerStep t l e)
   unfolding reverseOf
-  reverse-same k = decide (leb (payments (l .list)) (e .number))
+  reverse-same k = decide (leb (paymentCount (l .list)) (e .number))
       (λ y. let y′ : leb (a .totals .count) (e .number) ≡ true = rw (g .sums .count) y in
       simp y′ (refused-same t a l g e 6 (reverse-code t l e h k ∙ simp y) refl))
-      (λ f. decide (reversed (e .number) (l .list))
+      (λ f. decide (reversed (l .list) (e .number))
       (λ r. let f′ : leb (a .totals .count) (e .number) ≡ false = rw (g .sums .count) f in
-      let r′ : paymentAt a e .reversed ≡ true = ap (λ (x : Payment). x .reversed) (payment-is (leb-false (payments (l .list)) (e .number) f)) ∙ r in
+      let r′ : paymentAt a e .reversed ≡ true = ap (λ (x : Payment). x .reversed) (payment-is (leb-false (paymentCount (l .list)) (e .number) f)) ∙ r in
       simp (f′, r′) (refused-same t a l g e 6 (reverse-code t l e h k ∙ simp (f, r)) refl))
       (λ r. reversing-same k f r))
 
@@ -148,11 +148,11 @@ module _ (t : Terms) (a : Account) (l : Ledger) (e : Event) (g : Agree t a l) (s
   credit-same k =
       let z : refusal t l e ≡ 0 = credit-code t l e h k in
       let limit = amount-limits e (inr k) (h .limits) in
-      rw (takes t l e (balanceMove l 0 (l .balance +ℤ pos (e .amount))) z (credit-move t l e k))
+      rw (takes t l e (balanceEffect l 0 (l .balance +ℤ pos (e .amount))) z (credit-move t l e k))
       (record {
         code = refl;
         value = refl;
-        again = agreed t a l g e h s z _ (balanceMove l 0 (l .balance +ℤ pos (e .amount))) (g .terms)
+        again = agreed t a l g e h s z _ (balanceEffect l 0 (l .balance +ℤ pos (e .amount))) (g .terms)
             (record {
               events = omega (arith, g .sums .events);
               last = refl;
@@ -196,11 +196,11 @@ module _ (t : Terms) (a : Account) (l : Ledger) (e : Event) (g : Agree t a l) (s
       let sum : getD (a .charges) at 0 ≤ length (l .list) * 10000000 = rw (here, g .kept .charges (monthOf t (e .day)) (e .kind - 1) (omega arith) (omega (arith, limit .kind .most))) (g .kept .charged (monthOf t (e .day)) (suc (e .kind - 1))) in
       let small : ltb 1152921504606846976 (getD (a .charges) at 0) ≡ false = le-ltb 1152921504606846976 (getD (a .charges) at 0) (omega (arith, sum, g .bounds .full, g .sums .events)) in
       let small′ : ltb 1152921504606846976 (getD (a .charges) (chargeAt a e) 0) ≡ false = rw (g .terms) small in
-      simp small′ (rw (takes t l e (balanceMove l 0 (l .balance -ℤ pos (e .amount))) z (charge-move t l e k))
+      simp small′ (rw (takes t l e (balanceEffect l 0 (l .balance -ℤ pos (e .amount))) z (charge-move t l e k))
       (record {
         code = refl;
         value = refl;
-        again = agreed t a l g e h s z _ (balanceMove l 0 (l .balance -ℤ pos (e .amount))) (g .terms)
+        again = agreed t a l g e h s z _ (balanceEffect l 0 (l .balance -ℤ pos (e .amount))) (g .terms)
             (record {
               events = omega (arith, g .sums .events);
               last = refl;

@@ -21,10 +21,10 @@ use Rattle.marks.specs.Marks as marks
 use Rattle.marks.proofs.Laws.{marked-length, latest-some, latest-none, near-is, byte-weather, byte-barring}
 use Rattle.ledger.specs.declared.Event.{Event}
 use Rattle.ledger.specs.Event.{isPay, isReverse, isCharge, isEstimate, isRead, isWarn, isMark}
-use Rattle.ledger.specs.Entries.{Entry, Entries, any, lastDay, payments, warned, weather, weekday, covered, barred, business, weatherNear}
-use Rattle.ledger.specs.Rules.{Ledger, planAllowed}
-use Rattle.ledger.specs.Sums.{standing}
-use Rattle.ledger.specs.Ledger.{Move, serviceMove, planMove, deferred, moveOf, moved, refusal, ledgerStep}
+use Rattle.ledger.specs.Entries.{Entry, Entries, any, lastDay, paymentCount, warned, weather, weekday, covered, barred, business, weatherRecent}
+use Rattle.ledger.specs.Rules.{Ledger, mayDefer}
+use Rattle.ledger.specs.Sums.{standingCost}
+use Rattle.ledger.specs.Ledger.{Effect, serviceEffect, planEffect, deferred, effectOf, joined, refusal, ledgerStep}
 use Rattle.ledger.proofs.Cases.{decide, both}
 use Rattle.ledger.proofs.Money.{diff, diff-eq, diff-zero, diff-lt, diff-ge, diff-low, diff-gap}
 use Rattle.ledger.specs.Invariant.{Invariant}
@@ -35,7 +35,7 @@ use Rattle.account.specs.Head.{warnOf, markOf, deferral, deferredOf, planTest, 
 use Rattle.account.specs.declared.Account.{Account}
 use Rattle.account.specs.declared.Posted.{Posted}
 use Rattle.moves.proofs.Early.{mark-limits}
-use Rattle.refinement.specs.Agree.{Agree, Sums, Bounds, Sizes, Same, marksOf, warnedOn}
+use Rattle.refinement.specs.Agree.{Agree, Sums, Bounds, Sizes, Same, recordedMarks, warnedOn}
 use Rattle.refinement.proofs.Fields.{payments-same}
 use Rattle.refinement.proofs.Refusals.{Passes, warn-code, mark-code, plan-code, disconnect-code, connect-code, takes, warn-move, mark-move, plan-move, disconnect-move, connect-move}
 use Rattle.refinement.proofs.Keeps.{payments-stay, days-stay, marks-stay, warned-stay, charges-stay, marks-set, warned-set}
@@ -46,7 +46,7 @@ one-true : (b : Bool) → _≡_ {A = ℕ} (cond b 1 0) 1 → b ≡ true
 one-true true e = refl
 one-true false e = absurd (omega arith)
 
-warned-by : (x w : ℕ) (l : Entries) → warnedOn w l ≡ true → w < x → x ≤ w + 7 → warned x l ≡ true
+warned-by : (x w : ℕ) (l : Entries) → warnedOn l w ≡ true → w < x → x ≤ w + 7 → warned l x ≡ true
 unfolding warnedOn warned any
 warned-by x w [] y lo hi = y
 warned-by x w (n ∷ l) y lo hi = decide (isWarn (n .event) && eqb (n .event .day) w)
@@ -58,11 +58,11 @@ warned-by x w (n ∷ l) y lo hi = decide (isWarn (n .event) && eqb (n .event .da
 -- the day of such a warning
 pub record Day (x : ℕ) (l : Entries) : Type 0 where
   pub day : ℕ
-  pub on : warnedOn day l ≡ true
+  pub on : warnedOn l day ≡ true
   pub before : day < x
   pub after : x ≤ day + 7
 
-warned-day : (x : ℕ) (l : Entries) → warned x l ≡ true → Day x l
+warned-day : (x : ℕ) (l : Entries) → warned l x ≡ true → Day x l
 unfolding warnedOn warned any
 warned-day x [] y = absurd (true≢false (sym y))
 warned-day x (n ∷ l) y = decide (isWarn (n .event) && (leb (n .event .day + 1) x && leb x (n .event .day + 7)))
@@ -84,20 +84,20 @@ module _ (t : Terms) (a : Account) (l : Ledger) (e : Event) (g : Agree t a l) (s
   day = facts t a l g e h .day
 
   -- the search finds a warning exactly where the ledger has one
-  warning-is : isMissing (latestWarning (a .warned) (e .day)) ≡ not (warned (e .day) (l .list))
-  warning-is = decide (warned (e .day) (l .list))
+  warning-is : isMissing (latestWarning (a .warned) (e .day)) ≡ not (warned (l .list) (e .day))
+  warning-is = decide (warned (l .list) (e .day))
       (λ y. let d = warned-day (e .day) (l .list) y in
       rw y (latest-some (a .warned) (e .day) (d .day) day (g .kept .warned (d .day) (omega (arith, d .before, day)) ∙ simp (d .on)) (d .before) (d .after)))
       (λ f. rw f (latest-none (a .warned) (e .day) day
-      (λ w lo hi y. true≢false (sym (warned-by (e .day) w (l .list) (one-true (warnedOn w (l .list)) (sym (g .kept .warned w (omega (arith, lo, day))) ∙ y)) lo hi) ∙ f))))
+      (λ w lo hi y. true≢false (sym (warned-by (e .day) w (l .list) (one-true (warnedOn (l .list) w) (sym (g .kept .warned w (omega (arith, lo, day))) ∙ y)) lo hi) ∙ f))))
 
   -- the event's day has a weekday
   weekday-is : weekdayOn (a .terms .opened) (e .day) ≡ weekday t (e .day)
   weekday-is = ap (λ (x : Terms). weekdayOn (x .opened) (e .day)) (g .terms) ∙ simp (facts t a l g e h .opened, le-leb (e .day) 399 day)
 
-  barred-is : barredTest a e ≡ barred t (e .day) (l .list)
+  barred-is : barredTest a e ≡ barred t (l .list) (e .day)
   unfolding barred barringOn
-  barred-is = rw weekday-is (simp (le-leb (e .day) 399 day, g .kept .marks (e .day) (omega (arith, day)), byte-barring (covered 1 (e .day) (l .list)) (covered 2 (e .day) (l .list)) (covered 3 (e .day) (l .list))))
+  barred-is = rw weekday-is (simp (le-leb (e .day) 399 day, g .kept .marks (e .day) (omega (arith, day)), byte-barring (covered (l .list) 1 (e .day)) (covered (l .list) 2 (e .day)) (covered (l .list) 3 (e .day))))
 
   -- the weekday before
   weekday-back : (d : ℕ) → dayBefore (weekday t (suc d)) ≡ weekday t d
@@ -105,22 +105,22 @@ module _ (t : Terms) (a : Account) (l : Ledger) (e : Event) (g : Agree t a l) (s
       (λ y. simp y (sym (eqb-true (weekday t d) 6 y)))
       (λ f. simp (f, ne-eqb (weekday t d + 1) 0 (λ z. omega arith)) (omega arith)))
 
-  near-same : marks.weatherNear (a .marks) (weekdayOn (a .terms .opened) (e .day)) (e .day) ≡ weatherNear t (l .list) (e .day)
-  unfolding weatherNear business
+  near-same : marks.weatherNear (a .marks) (weekdayOn (a .terms .opened) (e .day)) (e .day) ≡ weatherRecent t (l .list) (e .day)
+  unfolding weatherRecent business
   near-same = rw weekday-is (near-is (a .marks) (weather (l .list)) (business t (l .list)) (weekday t)
-      (λ d k. rw (g .kept .marks d k) (byte-weather (covered 1 d (l .list)) (covered 2 d (l .list)) (covered 3 d (l .list))))
+      (λ d k. rw (g .kept .marks d k) (byte-weather (covered (l .list) 1 d) (covered (l .list) 2 d) (covered (l .list) 3 d)))
       (λ d. refl) weekday-back (e .day) day)
 
-  plan-is : planTest a e ≡ planAllowed t l e
-  unfolding planAllowed
+  plan-is : planTest a e ≡ mayDefer t l e
+  unfolding mayDefer
   plan-is = ap (λ (z : Bool). cond (eqb (e .kind) 1) (leb (a .totals .credit + 5000) (a .totals .debit) && z) (ltb (a .totals .credit) (a .totals .debit))) near-same
-      ∙ sym (ap (λ (b : ℤ). cond (eqb (e .kind) 1) (leZ b (negℤ (pos 5000)) && weatherNear t (l .list) (e .day)) (ltZ b (pos 0))) (g .sums .balance)
-      ∙ ap (λ (z : Bool). cond (eqb (e .kind) 1) (z && weatherNear t (l .list) (e .day)) (ltZ (diff (a .totals .credit) (a .totals .debit)) (pos 0))) (diff-low (a .totals .credit) (a .totals .debit) 4999)
-      ∙ ap (λ (z : Bool). cond (eqb (e .kind) 1) (leb (a .totals .credit + 5000) (a .totals .debit) && weatherNear t (l .list) (e .day)) z)
+      ∙ sym (ap (λ (b : ℤ). cond (eqb (e .kind) 1) (leZ b (negℤ (pos 5000)) && weatherRecent t (l .list) (e .day)) (ltZ b (pos 0))) (g .sums .balance)
+      ∙ ap (λ (z : Bool). cond (eqb (e .kind) 1) (z && weatherRecent t (l .list) (e .day)) (ltZ (diff (a .totals .credit) (a .totals .debit)) (pos 0))) (diff-low (a .totals .credit) (a .totals .debit) 4999)
+      ∙ ap (λ (z : Bool). cond (eqb (e .kind) 1) (leb (a .totals .credit + 5000) (a .totals .debit) && weatherRecent t (l .list) (e .day)) z)
       (diff-lt (a .totals .credit) (a .totals .debit) 0 ∙ ap (λ (n : ℕ). ltb (a .totals .credit) n) (add-zero (a .totals .debit))))
 
   -- the totals of an event that moves no sum
-  still-sums : (b c : Bool) → b ≡ c → refusal t l e ≡ 0 → isPay e ≡ false → isRead e ≡ false → isEstimate e ≡ false → Sums t (moves.serves (tallied (a .totals) (e .day)) b) (moved l e (serviceMove l c))
+  still-sums : (b c : Bool) → b ≡ c → refusal t l e ≡ 0 → isPay e ≡ false → isRead e ≡ false → isEstimate e ≡ false → Sums t (moves.serves (tallied (a .totals) (e .day)) b) (joined l e (serviceEffect l c))
   unfolding lastDay
   still-sums b c q z f r i = record {
     events = omega (arith, g .sums .events);
@@ -143,18 +143,18 @@ module _ (t : Terms) (a : Account) (l : Ledger) (e : Event) (g : Agree t a l) (s
   }
 
   -- service that is what it was
-  on-is : (z : refusal t l e ≡ 0) → isPay e ≡ false → isRead e ≡ false → isEstimate e ≡ false → Sums t (tallied (a .totals) (e .day)) (moved l e (serviceMove l (l .on)))
+  on-is : (z : refusal t l e ≡ 0) → isPay e ≡ false → isRead e ≡ false → isEstimate e ≡ false → Sums t (tallied (a .totals) (e .day)) (joined l e (serviceEffect l (l .on)))
   on-is z f r i = still-sums (a .totals .on) (l .on) (g .sums .on) z f r i
 
   pub warn-same : e .sort ≡ 7 → Same t (warnOf a e) (ledgerStep t l e)
   unfolding warnOf
   warn-same k =
       let z : refusal t l e ≡ 0 = warn-code t l e h k in
-      rw (takes t l e (serviceMove l (l .on)) z (warn-move t l e k))
+      rw (takes t l e (serviceEffect l (l .on)) z (warn-move t l e k))
       (record {
         code = refl;
         value = refl;
-        again = agreed t a l g e h s z _ (serviceMove l (l .on)) (g .terms) (on-is z (rw k refl) (rw k refl) (rw k refl)) (still-bounds (a .totals .on))
+        again = agreed t a l g e h s z _ (serviceEffect l (l .on)) (g .terms) (on-is z (rw k refl) (rw k refl) (rw k refl)) (still-bounds (a .totals .on))
             (record { payments = g .sizes .payments; days = g .sizes .days; marks = g .sizes .marks; warned = simp length-set (g .sizes .warned); charges = g .sizes .charges })
             (payments-stay t a e 0 (l .list) (g .kept) (rw k refl) (rw k refl))
             (days-stay t a e 0 (l .list) (g .kept) (rw k refl) (rw k refl))
@@ -168,11 +168,11 @@ module _ (t : Terms) (a : Account) (l : Ledger) (e : Event) (g : Agree t a l) (s
   mark-same k =
       let z : refusal t l e ≡ 0 = mark-code t l e h k in
       let limit = mark-limits e k (h .limits) in
-      rw (takes t l e (serviceMove l (l .on)) z (mark-move t l e k))
+      rw (takes t l e (serviceEffect l (l .on)) z (mark-move t l e k))
       (record {
         code = refl;
         value = refl;
-        again = agreed t a l g e h s z _ (serviceMove l (l .on)) (g .terms) (on-is z (rw k refl) (rw k refl) (rw k refl)) (still-bounds (a .totals .on))
+        again = agreed t a l g e h s z _ (serviceEffect l (l .on)) (g .terms) (on-is z (rw k refl) (rw k refl) (rw k refl)) (still-bounds (a .totals .on))
             (record { payments = g .sizes .payments; days = g .sizes .days; marks = marked-length (a .marks) (e .kind) (e .from) (e .to) ∙ g .sizes .marks; warned = g .sizes .warned; charges = g .sizes .charges })
             (payments-stay t a e 0 (l .list) (g .kept) (rw k refl) (rw k refl))
             (days-stay t a e 0 (l .list) (g .kept) (rw k refl) (rw k refl))
@@ -193,9 +193,9 @@ module _ (t : Terms) (a : Account) (l : Ledger) (e : Event) (g : Agree t a l) (s
       ∙ sym (ap (λ (b : ℤ). natAbs (pos (t .connect) -ℤ b)) (g .sums .balance) ∙ diff-gap (a .totals .credit) (a .totals .debit) (t .connect) y)
 
   deferred-same : e .sort ≡ 9 → planTest a e ≡ true → Same t (deferredOf a e) (ledgerStep t l e)
-  unfolding deferredOf planMove lastDay
+  unfolding deferredOf planEffect lastDay
   deferred-same k y =
-      let allowed : planAllowed t l e ≡ true = sym plan-is ∙ y in
+      let allowed : mayDefer t l e ≡ true = sym plan-is ∙ y in
       let low : a .totals .credit ≤ a .totals .debit = short y in
       let c : ℕ = a .totals .credit in
       let d : ℕ = a .totals .debit in
@@ -206,11 +206,11 @@ module _ (t : Terms) (a : Account) (l : Ledger) (e : Event) (g : Agree t a l) (s
       simp p′ (refused-same t a l g e 10 (plan-code t l e h k ∙ simp (allowed, p)) refl))
       (λ p. let p′ : ltb 0 (a .totals .plan) ≡ false = rw (g .sums .plan) p in
       let z : refusal t l e ≡ 0 = plan-code t l e h k ∙ simp (allowed, p) in
-      simp p′ (rw (takes t l e (planMove t l) z (plan-move t l e k))
+      simp p′ (rw (takes t l e (planEffect t l) z (plan-move t l e k))
       (record {
         code = refl;
         value = q;
-        again = agreed t a l g e h s z _ (planMove t l) (g .terms)
+        again = agreed t a l g e h s z _ (planEffect t l) (g .terms)
             (record {
               events = omega (arith, g .sums .events);
               last = refl;
@@ -242,15 +242,15 @@ module _ (t : Terms) (a : Account) (l : Ledger) (e : Event) (g : Agree t a l) (s
       (λ y. simp y (deferred-same k y))
       (λ f. simp f (refused-same t a l g e 9 (plan-code t l e h k ∙ simp (sym plan-is ∙ f)) refl))
 
-  served-same : (b : Bool) (z : refusal t l e ≡ 0) → moveOf t l e ≡ serviceMove l b → isPay e ≡ false → isReverse e ≡ false → isCharge e ≡ false → isEstimate e ≡ false → isRead e ≡ false → isWarn e ≡ false → isMark e ≡ false
+  served-same : (b : Bool) (z : refusal t l e ≡ 0) → effectOf t l e ≡ serviceEffect l b → isPay e ≡ false → isReverse e ≡ false → isCharge e ≡ false → isEstimate e ≡ false → isRead e ≡ false → isWarn e ≡ false → isMark e ≡ false
       → Same t (servedOf a e b) (ledgerStep t l e)
   unfolding servedOf
   served-same b z m f₁ f₂ f₄ f₅ f₆ f₇ f₈ =
-      rw (takes t l e (serviceMove l b) z m)
+      rw (takes t l e (serviceEffect l b) z m)
       (record {
         code = refl;
         value = refl;
-        again = agreed t a l g e h s z _ (serviceMove l b) (g .terms) (still-sums b b refl z f₁ f₆ f₅) (still-bounds b)
+        again = agreed t a l g e h s z _ (serviceEffect l b) (g .terms) (still-sums b b refl z f₁ f₆ f₅) (still-bounds b)
             (record { payments = g .sizes .payments; days = g .sizes .days; marks = g .sizes .marks; warned = g .sizes .warned; charges = g .sizes .charges })
             (payments-stay t a e 0 (l .list) (g .kept) f₁ f₂)
             (days-stay t a e 0 (l .list) (g .kept) f₅ f₆)
@@ -273,8 +273,8 @@ module _ (t : Terms) (a : Account) (l : Ledger) (e : Event) (g : Agree t a l) (s
   disconnect-same k = decide (l .on)
       (λ o. let o′ : a .totals .on ≡ true = g .sums .on ∙ o in decide (leZ (pos (t .cutoff)) (l .balance))
       (λ b. simp (o′, cutoff-is ∙ b) (refused-same t a l g e 12 (disconnect-code t l e h k ∙ simp (o, b)) refl))
-      (λ b. decide (warned (e .day) (l .list))
-      (λ w. let w′ : isMissing (latestWarning (a .warned) (e .day)) ≡ false = warning-is ∙ ap not w in decide (barred t (e .day) (l .list))
+      (λ b. decide (warned (l .list) (e .day))
+      (λ w. let w′ : isMissing (latestWarning (a .warned) (e .day)) ≡ false = warning-is ∙ ap not w in decide (barred t (l .list) (e .day))
       (λ r. simp (o′, cutoff-is ∙ b, w′, barred-is ∙ r) (refused-same t a l g e 14 (disconnect-code t l e h k ∙ simp (o, b, w, r)) refl))
       (λ r. simp (o′, cutoff-is ∙ b, w′, barred-is ∙ r) (served-same false (disconnect-code t l e h k ∙ simp (o, b, w, r)) (disconnect-move t l e k) (rw k refl) (rw k refl) (rw k refl) (rw k refl) (rw k refl) (rw k refl) (rw k refl))))
       (λ w. simp (o′, cutoff-is ∙ b, warning-is ∙ ap not w) (refused-same t a l g e 13 (disconnect-code t l e h k ∙ simp (o, b, w)) refl))))

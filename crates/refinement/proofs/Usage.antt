@@ -14,10 +14,10 @@ use Rattle.tariff.specs.Tariff.{costOf}
 use Rattle.terms.specs.declared.Terms.{Terms}
 use Rattle.ledger.specs.declared.Event.{Event}
 use Rattle.ledger.specs.Event.{isEstimate, isRead}
-use Rattle.ledger.specs.Entries.{costIn, Entries, any, readOn, estimateOn, lastDay, payments, priceOn, UsageDay, blank, estimated, metered, usageDay, isBlank, isMetered, estimateCost}
+use Rattle.ledger.specs.Entries.{usageCost, Entries, any, readOn, estimateOn, lastDay, paymentCount, priceOn, UsageDay, blank, estimated, metered, usageDay, isBlank, isMetered, estimateCost}
 use Rattle.ledger.specs.Rules.{Ledger}
-use Rattle.ledger.specs.Sums.{standing}
-use Rattle.ledger.specs.Ledger.{Move, estimateMove, readMove, eventCost, moved, refusal, ledgerStep}
+use Rattle.ledger.specs.Sums.{standingCost}
+use Rattle.ledger.specs.Ledger.{Effect, estimateEffect, readEffect, joined, refusal, ledgerStep}
 use Rattle.ledger.proofs.Cases.{decide, neither}
 use Rattle.ledger.proofs.Money.{diff, diff-add, diff-sub}
 use Rattle.ledger.specs.Invariant.{Invariant}
@@ -30,7 +30,7 @@ use Rattle.account.specs.declared.Account.{Account}
 use Rattle.account.specs.declared.Posted.{Posted}
 use Rattle.moves.proofs.Cost.{cost-limit}
 use Rattle.moves.proofs.Early.{usage-limits}
-use Rattle.refinement.specs.Agree.{Agree, Sums, Bounds, Sizes, Same, usageOf}
+use Rattle.refinement.specs.Agree.{Agree, Sums, Bounds, Sizes, Same, recordedUsage}
 use Rattle.refinement.proofs.Fields.{payments-same, usage-estimated, usage-metered}
 use Rattle.refinement.proofs.Refusals.{Passes, estimate-code, read-code, takes, estimate-move, read-move}
 use Rattle.refinement.proofs.Keeps.{payments-stay, days-set, marks-stay, warned-stay, charges-stay}
@@ -40,7 +40,7 @@ module _ (t : Terms) (a : Account) (l : Ledger) (e : Event) (g : Agree t a l) (s
   room : a .totals .events + 1 ≤ 4096
   room = omega (arith, facts t a l g e h .room)
 
-  cost-is : newCost a e ≡ eventCost t l e
+  cost-is : newCost a e ≡ usageCost t (l .list) e
   unfolding priceOn
   cost-is = ap (λ (x : Terms). costOf (e .wh) (x .price)) (g .terms)
 
@@ -58,26 +58,26 @@ module _ (t : Terms) (a : Account) (l : Ledger) (e : Event) (g : Agree t a l) (s
     used : e .usage < 400
     used = omega (arith, leb-false (e .day) (e .usage) f, facts t a l g e h .day)
 
-    state-is : usageAt a e ≡ usageOf (usageDay t (l .list) (e .usage))
+    state-is : usageAt a e ≡ recordedUsage (usageDay t (l .list) (e .usage))
     state-is = g .kept .days (e .usage) used
 
     estimated-same : e .sort ≡ 5 → isBlank (usageDay t (l .list) (e .usage)) ≡ true → Same t (estimatedOf a e) (ledgerStep t l e)
-    unfolding estimatedOf estimateMove lastDay
+    unfolding estimatedOf estimateEffect lastDay
     estimated-same k y =
         let z : refusal t l e ≡ 0 = estimate-code t l e h k ∙ simp (f, y) in
         let free : (any (readOn (e .usage)) (l .list) || any (estimateOn (e .usage)) (l .list)) ≡ false = not-true _ (sym (blank-is t (l .list) (e .usage)) ∙ y) in
         let new = usage-estimated e 0 (l .list) t (rw k refl) (rw k refl) (neither _ _ free .0) in
         let stands = simp (sort-is k 6 refl, sort-is k 5 refl) at (standing-is t a l g e h s z 0) in
-        rw (takes t l e (estimateMove t l e) z (estimate-move t l e k))
+        rw (takes t l e (estimateEffect t l e) z (estimate-move t l e k))
         (record {
           code = refl;
           value = cost-is;
-          again = agreed t a l g e h s z _ (estimateMove t l e) (g .terms)
+          again = agreed t a l g e h s z _ (estimateEffect t l e) (g .terms)
               (record {
                 events = omega (arith, g .sums .events);
                 last = refl;
-                balance = ap (λ (x : ℤ). x -ℤ pos (eventCost t l e)) (g .sums .balance)
-                    ∙ diff-sub (a .totals .credit) (a .totals .debit) (eventCost t l e)
+                balance = ap (λ (x : ℤ). x -ℤ pos (usageCost t (l .list) e)) (g .sums .balance)
+                    ∙ diff-sub (a .totals .credit) (a .totals .debit) (usageCost t (l .list) e)
                     ∙ ap (λ (x : ℕ). diff (a .totals .credit) (a .totals .debit + x)) (sym cost-is);
                 plan = g .sums .plan;
                 on = g .sums .on;
@@ -102,23 +102,23 @@ module _ (t : Terms) (a : Account) (l : Ledger) (e : Event) (g : Agree t a l) (s
 
     metered-same : (old : ℕ) → e .sort ≡ 6 → isMetered (usageDay t (l .list) (e .usage)) ≡ false → old ≡ estimateCost (usageDay t (l .list) (e .usage)) → old ≤ 10000000
         → Same t (meteredOf a e old) (ledgerStep t l e)
-    unfolding meteredOf readMove lastDay
+    unfolding meteredOf readEffect lastDay
     metered-same old k y q most =
         let z : refusal t l e ≡ 0 = read-code t l e h k ∙ simp (f, y) in
         let new = usage-metered e 0 (l .list) t (rw k refl) in
         let stands = simp (sort-is k 6 refl, sort-is k 5 refl) at (standing-is t a l g e h s z 0) in
-        rw (takes t l e (readMove t l e) z (read-move t l e k))
+        rw (takes t l e (readEffect t l e) z (read-move t l e k))
         (record {
           code = refl;
           value = cost-is;
-          again = agreed t a l g e h s z _ (readMove t l e) (g .terms)
+          again = agreed t a l g e h s z _ (readEffect t l e) (g .terms)
               (record {
                 events = omega (arith, g .sums .events);
                 last = refl;
-                balance = ap (λ (x : ℤ). x +ℤ pos (estimateCost (usageDay t (l .list) (e .usage))) -ℤ pos (eventCost t l e)) (g .sums .balance)
-                    ∙ ap (λ (x : ℤ). x -ℤ pos (eventCost t l e)) (diff-add (a .totals .credit) (a .totals .debit) (estimateCost (usageDay t (l .list) (e .usage))))
-                    ∙ diff-sub (a .totals .credit + estimateCost (usageDay t (l .list) (e .usage))) (a .totals .debit) (eventCost t l e)
-                    ∙ ap (λ (x : ℕ). diff (a .totals .credit + x) (a .totals .debit + eventCost t l e)) (sym q)
+                balance = ap (λ (x : ℤ). x +ℤ pos (estimateCost (usageDay t (l .list) (e .usage))) -ℤ pos (usageCost t (l .list) e)) (g .sums .balance)
+                    ∙ ap (λ (x : ℤ). x -ℤ pos (usageCost t (l .list) e)) (diff-add (a .totals .credit) (a .totals .debit) (estimateCost (usageDay t (l .list) (e .usage))))
+                    ∙ diff-sub (a .totals .credit + estimateCost (usageDay t (l .list) (e .usage))) (a .totals .debit) (usageCost t (l .list) e)
+                    ∙ ap (λ (x : ℕ). diff (a .totals .credit + x) (a .totals .debit + usageCost t (l .list) e)) (sym q)
                     ∙ ap (λ (x : ℕ). diff (a .totals .credit + old) (a .totals .debit + x)) (sym cost-is);
                 plan = g .sums .plan;
                 on = g .sums .on;
@@ -143,13 +143,13 @@ module _ (t : Terms) (a : Account) (l : Ledger) (e : Event) (g : Agree t a l) (s
 
     -- by the day's state
     estimate-by : e .sort ≡ 5 → (d : UsageDay) → usageDay t (l .list) (e .usage) ≡ d
-        → Same t (byUsage (usageOf d) (estimatedOf a e) (λ (old : ℕ). refused a 8) (refused a 8)) (ledgerStep t l e)
+        → Same t (byUsage (recordedUsage d) (estimatedOf a e) (λ (old : ℕ). refused a 8) (refused a 8)) (ledgerStep t l e)
     estimate-by k blank q = estimated-same k (ap isBlank q)
     estimate-by k (estimated wh cost) q = refused-same t a l g e 8 (estimate-code t l e h k ∙ simp (f, q)) refl
     estimate-by k (metered wh cost) q = refused-same t a l g e 8 (estimate-code t l e h k ∙ simp (f, q)) refl
 
     read-by : e .sort ≡ 6 → (d : UsageDay) → usageDay t (l .list) (e .usage) ≡ d
-        → Same t (byUsage (usageOf d) (meteredOf a e 0) (λ (old : ℕ). meteredOf a e old) (refused a 8)) (ledgerStep t l e)
+        → Same t (byUsage (recordedUsage d) (meteredOf a e 0) (λ (old : ℕ). meteredOf a e old) (refused a 8)) (ledgerStep t l e)
     read-by k blank q = metered-same 0 k (ap isMetered q) (sym (ap estimateCost q)) (omega arith)
     read-by k (estimated wh cost) q = metered-same cost k (ap isMetered q) (sym (ap estimateCost q)) (rw q at (g .kept .held (e .usage)))
     read-by k (metered wh cost) q = refused-same t a l g e 8 (read-code t l e h k ∙ simp (f, q)) refl
