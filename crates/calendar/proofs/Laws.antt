@@ -8,8 +8,8 @@ use native.Mathlib.Omega.{arith}
 use lib.ListN.{List·getD-eq-default}
 use lib.Dec.{leb, ltb, eqb}
 use borrow.Author.Tests.{ltb-true, ltb-false, leb-true, leb-false, eqb-true, eqb-false, le-leb}
-use Rattle.calendar.specs.Calendar.{date, leapYear, monthDays, monthLength, isDate, nextOf, dateOn, total, lengthAfter}
-use Rattle.calendar.specs.Calendar.{monthsAfter, daysAfter, weekdayAfter, weekdayOf, monthFrom, opens, reached, isDay, dateAnswer}
+use Rattle.calendar.specs.Calendar.{date, leapYear, monthDays, monthLength, dateExists, nextOf, dateOn, total, lengthAfter}
+use Rattle.calendar.specs.Calendar.{monthsAfter, daysAfter, weekdayAfter, weekdayOf, monthFrom, opens, inReach, isDay, dateAnswer}
 use Rattle.calendar.specs.declared.Date.{Date}
 use Rattle.calendar.specs.declared.Dated.the-variants as dated
 use Rattle.calendar.proofs.Sums.{decide, and-left, and-right, leb-and, every, every-at, total-mono, Within, within-mono, within-unique}
@@ -64,8 +64,8 @@ pub record Real (d : Date) : Type 0 where
   pub day-low : 1 ≤ d .day
   pub day-high : d .day ≤ monthLength (d .year) (d .month)
 
-pub real : (d : Date) → 2000 ≤ d .year → isDate (d .year) (d .month) (d .day) ≡ true → Real d
-unfolding isDate monthLength
+pub real : (d : Date) → 2000 ≤ d .year → dateExists (d .year) (d .month) (d .day) ≡ true → Real d
+unfolding dateExists monthLength
 real d h e =
     let low = leb-and 1 (d .day) _ e in
     let high : d .day ≤ monthLength (d .year) (d .month) = leb-true _ _ (low .1) in
@@ -77,7 +77,7 @@ pub record RealTo (y : ℕ) (d : Date) : Type 0 where
   pub real : Real d
   pub until : d .year ≤ y
 
-real-to : (y : ℕ) (d : Date) → leb 2000 (d .year) && (leb (d .year) y && isDate (d .year) (d .month) (d .day)) ≡ true → RealTo y d
+real-to : (y : ℕ) (d : Date) → leb 2000 (d .year) && (leb (d .year) y && dateExists (d .year) (d .month) (d .day)) ≡ true → RealTo y d
 real-to y d e =
     let low = leb-and 2000 (d .year) _ e in
     let high = leb-and (d .year) y _ (low .1) in
@@ -87,16 +87,16 @@ pub opens-real : (d : Date) → opens d ≡ true → RealTo 2099 d
 unfolding opens
 opens-real d e = real-to 2099 d e
 
-pub reached-real : (d : Date) → reached d ≡ true → RealTo 2101 d
-unfolding reached
+pub reached-real : (d : Date) → inReach d ≡ true → RealTo 2101 d
+unfolding inReach
 reached-real d e = real-to 2101 d e
 
 -- and back
-pub real-reached : (d : Date) → Real d → d .year ≤ 2101 → reached d ≡ true
-unfolding reached isDate
+pub real-reached : (d : Date) → Real d → d .year ≤ 2101 → inReach d ≡ true
+unfolding inReach dateExists
 real-reached d r h = simp (le-leb 2000 (d .year) (r .since), le-leb (d .year) 2101 h, le-leb 1 (d .day) (r .day-low), le-leb (d .day) (monthLength (d .year) (d .month)) (r .day-high))
 
-pub opens-reached : (d : Date) → opens d ≡ true → reached d ≡ true
+pub opens-reached : (d : Date) → opens d ≡ true → inReach d ≡ true
 opens-reached d e = let r = opens-real d e in real-reached d (r .real) (omega arith)
 
 -- ---- days after 2000-01-01
@@ -154,7 +154,7 @@ pub month-holds : (d : Date) → Real d → Within lengthAfter (monthsAfter d) (
 unfolding daysAfter total
 month-holds d r = omega (arith, index-length d r)
 
-pub days-limit : (d : Date) → reached d ≡ true → daysAfter d < 37944
+pub days-limit : (d : Date) → inReach d ≡ true → daysAfter d < 37944
 days-limit d e =
     let r = reached-real d e in
     omega (arith, month-holds d (r .real), sum-limit (suc (monthsAfter d)))
@@ -256,7 +256,7 @@ month-limit o k e =
     omega (arith, pairs-after (suc (monthsAfter o)) 7, month-holds o r, month-is o r k m .0 refl)))
 
 -- the calendar reaches every day of an account
-pub day-reached : (o : Date) (k : ℕ) → isDay o k ≡ true → reached (dateOn o k) ≡ true
+pub day-reached : (o : Date) (k : ℕ) → isDay o k ≡ true → inReach (dateOn o k) ≡ true
 day-reached o k e =
     let d = day-limits o k e in
     let r = d .opened .real in

@@ -7,8 +7,8 @@ use native.Mathlib.Numerals.{add-one}
 use native.Mathlib.Omega.{arith}
 use lib.Dec.{leb, ltb, eqb}
 use borrow.Author.Tests.{ltb-true, ltb-false, leb-true, eqb-true, le-leb}
-use Rattle.calendar.specs.Calendar.{date, leapYear, monthDays, monthLength, isDate, total, lengthAfter, daysAfter, dateOn}
-use Rattle.calendar.specs.Work.{daysBefore, yearLength, carry, InYear}
+use Rattle.calendar.specs.Calendar.{date, leapYear, monthDays, monthLength, dateExists, total, lengthAfter, daysAfter, dateOn}
+use Rattle.calendar.specs.Work.{daysBefore, yearLength, yearTaken, InYear}
 use Rattle.calendar.specs.declared.Date.{Date}
 use Rattle.calendar.specs.declared.Place.{Place}
 use Rattle.calendar.proofs.Sums.{decide, every, every-at, total-mono}
@@ -83,7 +83,7 @@ years-sum (suc n) h = rw (← add-one n) (year-sum n ∙ omega (arith, years-sum
 
 -- the day lies in month m where it lies between the first of m and of m + 1
 pub in-year : (y left m : ℕ) → m ≤ 12 → daysBefore (leapYear y) m ≤ left → left < daysBefore (leapYear y) (m + 1) → InYear y left (date y m (left - daysBefore (leapYear y) m + 1))
-unfolding isDate monthLength
+unfolding dateExists monthLength
 in-year y left m h l u =
     let b = before-next (leapYear y) m in
     record {
@@ -137,14 +137,14 @@ abbrev pub dayOf : Place → ℕ
 dayOf p = total lengthAfter (12 * (p .year - 2000)) + p .left
 
 -- q is the same day as p, in the same year or the next; `room` says how many days q has beyond its year
-pub record Carried (p q : Place) : Type 0 where
+pub record YearTaken (p q : Place) : Type 0 where
   pub low : p .year ≤ q .year
   pub high : q .year ≤ p .year + 1
   pub day : dayOf q ≡ dayOf p
   pub room : (n : ℕ) → p .left < yearLength (p .year) + n → q .left < yearLength (q .year) + (n - 365)
 
-pub carry-keeps : (p : Place) → 2000 ≤ p .year → Carried p (carry p)
-carry-keeps p h = decide (ltb (p .left) (yearLength (p .year)))
+pub taken-keeps : (p : Place) → 2000 ≤ p .year → YearTaken p (yearTaken p)
+taken-keeps p h = decide (ltb (p .left) (yearLength (p .year)))
     (λ t. rw t (record { low = omega arith; high = omega arith; day = refl; room = λ n l. omega (arith, ltb-true (p .left) (yearLength (p .year)) t) }))
     (λ t.
     let b = ltb-false (p .left) (yearLength (p .year)) t in
@@ -189,22 +189,22 @@ abbrev pub placeOf : Date → ℕ → Place
 placeOf o k = record { year = o .year; left = daysBefore (leapYear (o .year)) (o .month) + (o .day - 1) + k }
 
 module _ (o : Date) (r : RealTo 2099 o) (k : ℕ) (h : k ≤ 399) where
-  once : Carried (placeOf o k) (carry (placeOf o k))
-  once = carry-keeps (placeOf o k) (r .real .since)
+  once : YearTaken (placeOf o k) (yearTaken (placeOf o k))
+  once = taken-keeps (placeOf o k) (r .real .since)
 
-  pub once-year : carry (placeOf o k) .year ≤ 2101
+  pub once-year : yearTaken (placeOf o k) .year ≤ 2101
   once-year = omega (arith, once .high)
 
-  twice : Carried (carry (placeOf o k)) (carry (carry (placeOf o k)))
-  twice = carry-keeps (carry (placeOf o k)) (omega (arith, once .low))
+  twice : YearTaken (yearTaken (placeOf o k)) (yearTaken (yearTaken (placeOf o k)))
+  twice = taken-keeps (yearTaken (placeOf o k)) (omega (arith, once .low))
 
   -- two years taken out are enough
-  pub twice-left : carry (carry (placeOf o k)) .left < yearLength (carry (carry (placeOf o k)) .year)
+  pub twice-left : yearTaken (yearTaken (placeOf o k)) .left < yearLength (yearTaken (yearTaken (placeOf o k)) .year)
   twice-left = let l = twice .room 34 (once .room 399 (omega (arith, place-below o (r .real)))) in omega arith
 
   -- and what is left is day k
-  pub date-is : (d : Date) → InYear (carry (carry (placeOf o k)) .year) (carry (carry (placeOf o k)) .left) d → d ≡ dateOn o k
+  pub date-is : (d : Date) → InYear (yearTaken (yearTaken (placeOf o k)) .year) (yearTaken (yearTaken (placeOf o k)) .left) d → d ≡ dateOn o k
   date-is d i =
-      let e = place-day (carry (carry (placeOf o k))) d (omega (arith, once .low, twice .low)) i in
+      let e = place-day (yearTaken (yearTaken (placeOf o k))) d (omega (arith, once .low, twice .low)) i in
       let k-day = day-real o (r .real) k in
       same-day d (dateOn o k) (e .real) (k-day .real) (omega (arith, place-of o (r .real), once .day, twice .day))

@@ -28,8 +28,8 @@ unfoldable pub monthLength : ℕ → ℕ → ℕ
 monthLength y m = monthDays (leapYear y) m
 
 -- Whether the triple is a date of the calendar.
-unfoldable pub isDate : ℕ → ℕ → ℕ → Bool
-isDate y m d = leb 1 d && leb d (monthLength y m)
+unfoldable pub dateExists : ℕ → ℕ → ℕ → Bool
+dateExists y m d = leb 1 d && leb d (monthLength y m)
 
 -- The day after a date.
 unfoldable pub nextOf : Date → Date
@@ -74,20 +74,20 @@ monthFrom opened d = (12 * d .year + d .month) - (12 * opened .year + opened .mo
 
 -- A date that can open an account: "a Gregorian date, years 2000 to 2099".
 unfoldable pub opens : Date → Bool
-opens d = leb 2000 (d .year) && (leb (d .year) 2099 && isDate (d .year) (d .month) (d .day))
+opens d = leb 2000 (d .year) && (leb (d .year) 2099 && dateExists (d .year) (d .month) (d .day))
 
 -- The dates that the calendar's code works on: to the end of 2101, the year in which the last account ends.
-unfoldable pub reached : Date → Bool
-reached d = leb 2000 (d .year) && (leb (d .year) 2101 && isDate (d .year) (d .month) (d .day))
+unfoldable pub inReach : Date → Bool
+inReach d = leb 2000 (d .year) && (leb (d .year) 2101 && dateExists (d .year) (d .month) (d .day))
 
 -- ---- what the functions of this crate answer
 
 -- outside those dates: the same record, no weekday (7)
 abbrev pub nextAnswer : Date → Date
-nextAnswer d = cond (reached d) (nextOf d) d
+nextAnswer d = cond (inReach d) (nextOf d) d
 
 abbrev pub weekdayAnswer : Date → ℕ
-weekdayAnswer d = cond (reached d) (weekdayOf d) 7
+weekdayAnswer d = cond (inReach d) (weekdayOf d) 7
 
 -- "k from 0 to 399"
 abbrev pub finalDay : ℕ

@@ -3,7 +3,7 @@ use Prim.Native.Nat.{ℕ, _+_, _-_, _≤_, min}
 use mathlib.Core.Path.{_≡_}
 use mathlib.Core.Bool.{Bool, true, cond}
 use lib.Dec.{ltb}
-use Rattle.calendar.specs.Calendar.{leapYear, monthDays, isDate, total, lengthAfter, monthsAfter, daysAfter, dayCount}
+use Rattle.calendar.specs.Calendar.{leapYear, monthDays, dateExists, total, lengthAfter, monthsAfter, daysAfter, dayCount}
 use Rattle.calendar.specs.declared.Date.{Date}
 use Rattle.calendar.specs.declared.Place.{Place}
 
@@ -14,13 +14,13 @@ daysBefore leap m = total (monthDays leap) m
 unfoldable pub yearLength : ℕ → ℕ
 yearLength y = cond (leapYear y) 366 365
 
-abbrev pub carry : Place → Place
-carry p = cond (ltb (p .left) (yearLength (p .year))) p (record { year = p .year + 1; left = p .left - yearLength (p .year) })
+abbrev pub yearTaken : Place → Place
+yearTaken p = cond (ltb (p .left) (yearLength (p .year))) p (record { year = p .year + 1; left = p .left - yearLength (p .year) })
 
 -- r is the date that comes `left` days after 1 January of the year
 pub record InYear (y left : ℕ) (r : Date) : Type 0 where
   pub year : r .year ≡ y
-  pub real : isDate (r .year) (r .month) (r .day) ≡ true
+  pub real : dateExists (r .year) (r .month) (r .day) ≡ true
   pub month : r .month ≤ 12
   pub rest : daysBefore (leapYear y) (r .month) + (r .day - 1) ≡ left
 

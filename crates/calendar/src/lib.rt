@@ -3,10 +3,10 @@
 ghost use mathlib.Core.Path.{_≡_};
 ghost use mathlib.Core.Bool.{true};
 ghost use Prim.Native.Nat.{_*_, _≤_, _<_};
-ghost use Rattle.calendar.specs.Calendar.{leapYear, monthLength, isDate, opens, reached};
+ghost use Rattle.calendar.specs.Calendar.{leapYear, monthLength, dateExists, opens, inReach};
 ghost use Rattle.calendar.specs.Calendar.{total, lengthAfter, daysAfter, monthFrom};
 ghost use Rattle.calendar.specs.Calendar.{nextAnswer, weekdayAnswer, monthCount, dateAnswer, weekdayOn, monthOn, DayAnswer, MonthAnswer};
-ghost use Rattle.calendar.specs.Work.{daysBefore, yearLength, carry, InYear, monthStart};
+ghost use Rattle.calendar.specs.Work.{daysBefore, yearLength, yearTaken, InYear, monthStart};
 
 #[repr(C)]
 pub struct Date {
@@ -68,7 +68,7 @@ fn month_length(year: u32, month: u32) -> u32
 
 // Whether year, month and day are a date.
 pub fn exists(year: u32, month: u32, day: u32) -> bool
-    ensures { λ r. ⌜ r ≡ isDate year month day ⌝ }
+    ensures { λ r. ⌜ r ≡ dateExists year month day ⌝ }
 {
     if day < 1 {
         return false;
@@ -110,14 +110,14 @@ fn month_after(i: u32) -> u32
 }
 
 fn days_after(d: Date) -> u32
-    requires { ⌜ reached d ≡ true ⌝ }
+    requires { ⌜ inReach d ≡ true ⌝ }
     ensures { λ r. ⌜ r ≡ daysAfter d ⌝ }
 {
     month_after(12 * (d.year - 2000) + (d.month - 1)) + (d.day - 1)
 }
 
 fn is_reached(d: Date) -> bool
-    ensures { λ r. ⌜ r ≡ reached d ⌝ }
+    ensures { λ r. ⌜ r ≡ inReach d ⌝ }
 {
     if d.year < 2000 {
         return false;
@@ -206,9 +206,9 @@ struct Place {
 }
 
 // The place with one whole year taken out of its days, where they hold one.
-fn carried(p: Place) -> Place
+fn take_year(p: Place) -> Place
     requires { ⌜ (p .year ≤ 2101) ⌝ }
-    ensures { λ r. ⌜ r ≡ carry p ⌝ }
+    ensures { λ r. ⌜ r ≡ yearTaken p ⌝ }
 {
     let n = year_length(p.year);
     if p.left < n {
@@ -255,7 +255,7 @@ pub fn date_of(opened: Date, k: u32) -> Dated
         return Dated::Outside;
     }
     let left = days_before(leap(opened.year), opened.month) + (opened.day - 1) + k;
-    let p = carried(carried(Place {
+    let p = take_year(take_year(Place {
         year: opened.year,
         left,
     }));

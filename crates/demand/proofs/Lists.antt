@@ -15,7 +15,7 @@ use Rattle.ledger.specs.declared.Event.{Event}
 use Rattle.ledger.specs.declared.Answer.{Answer}
 use Rattle.ledger.specs.Entries.{usageDay, estimateCost}
 use Rattle.ledger.specs.Rules.{Ledger}
-use Rattle.ledger.specs.Sums.{settled, standing}
+use Rattle.ledger.specs.Sums.{settled, standingCost}
 use Rattle.ledger.specs.Ledger.{opening, ledgerStep, ledgerAfter}
 use Rattle.ledger.specs.Calls.{Call, single, row, Back, answered, written, fed, ledgerCalled, ledgerCodes, ledgerBack}
 use Rattle.ledger.specs.Invariant.{Invariant}
@@ -80,7 +80,7 @@ adds-nothing z n h =
 module _ (t : Terms) (l : Ledger) (q : Invariant t l) where
   exact : (l .balance -ℤ pos (l .plan) ≡ settled t (l .list)) ↔ ((u : ℕ) → estimateCost (usageDay t (l .list) u) ≡ 0)
   exact = (
-    λ h. standing-none t l q .0 (adds-nothing (l .balance -ℤ pos (l .plan)) (standing t (l .list)) (settled-is t l q ∙ sym h)),
+    λ h. standing-none t l q .0 (adds-nothing (l .balance -ℤ pos (l .plan)) (standingCost t (l .list)) (settled-is t l q ∙ sym h)),
     λ z. sym (+ℤ-idr (l .balance -ℤ pos (l .plan))) ∙ ap (λ (n : ℕ). l .balance -ℤ pos (l .plan) +ℤ pos n) (sym (standing-none t l q .1 z)) ∙ settled-is t l q,
   )
 

@@ -25,7 +25,7 @@ shows t l = record {
   plan = l .plan;
   on = l .on;
   settled = sums.settled t (l .list);
-  standing = sums.standing t (l .list);
+  standing = sums.standingCost t (l .list);
 }
 
 -- the codes that a call hands back: its event i has its code at place i

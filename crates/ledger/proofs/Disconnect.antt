@@ -39,7 +39,7 @@ grounds-of t l e k a =
     let b : leZ (pos (t .cutoff)) (l .balance) ≡ false = simp y at (neither (isDisconnect e && leZ (pos (t .cutoff)) (l .balance)) (isConnect e && ltZ (l .balance) (pos (t .connect))) (a .rule 12) .0) in (
       not-false (l .on) (simp y at (neither (isDisconnect e && not (l .on)) (isConnect e && l .on) (a .rule 11) .0)),
       ltZ-not (l .balance) (pos (t .cutoff)) ∙ rw b,
-      not-false (warned (e .day) (l .list)) (simp y at (a .rule 13)),
+      not-false (warned (l .list) (e .day)) (simp y at (a .rule 13)),
       simp y at (a .rule 14),
     )
 

@@ -14,10 +14,10 @@ use Rattle.terms.specs.declared.Terms.{Terms}
 use Rattle.terms.specs.Terms.{validTerms}
 use Rattle.ledger.specs.declared.Event.{Event}
 use Rattle.ledger.specs.Event.{isPay, isReverse, isCredit, isCharge, isEstimate, isRead, isPlan, isDisconnect, isConnect}
-use Rattle.ledger.specs.Entries.{costIn, Entry, Entries, any, count, sum, sumOf, amountOf, find, lastDay, payments, hasNumber, payment, reversed, priceOn, UsageDay, readOn, estimateOn, whOn, usageDay, isBlank, isMetered, estimateCost}
-use Rattle.ledger.specs.Sums.{kept, credits, charges, reads, settled, standing}
-use Rattle.ledger.specs.Rules.{Ledger, planAllowed, refusals}
-use Rattle.ledger.specs.Ledger.{opening, Move, planPart, payMove, reverseMove, balanceMove, serviceMove, eventCost, estimateMove, readMove, deferred, planMove, moveOf, moved, accepts, ledgerStep}
+use Rattle.ledger.specs.Entries.{usageCost, Entry, Entries, any, count, sum, sumOf, amountOf, find, lastDay, paymentCount, hasNumber, payment, reversed, priceOn, UsageDay, readOn, estimateOn, whOn, usageDay, isBlank, isMetered, estimateCost}
+use Rattle.ledger.specs.Sums.{keptTotal, creditTotal, chargeTotal, readCost, settled, standingCost}
+use Rattle.ledger.specs.Rules.{Ledger, mayDefer, refusals}
+use Rattle.ledger.specs.Ledger.{opening, Effect, planPart, payEffect, reverseEffect, balanceEffect, serviceEffect, estimateEffect, readEffect, deferred, planEffect, effectOf, joined, accepts, ledgerStep}
 use Rattle.ledger.proofs.Cases.{decide, neither, both, other}
 use Rattle.ledger.proofs.Money.{diff, diff-eq, diff-add, diff-sub, diff-gap, diff-zero, diff-high, by-sign}
 use Rattle.ledger.proofs.Accepted.{Accepted, accepted-by}
@@ -25,7 +25,7 @@ use Rattle.ledger.specs.Invariant.{All, UsedBefore, Invariant}
 use Rattle.ledger.proofs.Weights.{all-map, sum-same, take-out, one-weighs, given-once}
 
 pub invariant-opening : (t : Terms) → t .share ≤ 100 → Invariant t opening
-unfolding kept credits charges reads standing sum reversed any payment find count
+unfolding keptTotal creditTotal chargeTotal readCost standingCost sum reversed any payment find count
 invariant-opening t h = record {
   identity = refl;
   share = h;
@@ -42,12 +42,12 @@ invariant-valid t v = invariant-opening t (decide (leb (t .share) 50)
     (λ y. omega (arith, leb-true (t .share) 50 y))
     (λ f. absurd (true≢false (sym (simp (f, and-false) at v)))))
 
-pub settled-is : (t : Terms) (l : Ledger) → Invariant t l → l .balance -ℤ pos (l .plan) +ℤ pos (standing t (l .list)) ≡ settled t (l .list)
+pub settled-is : (t : Terms) (l : Ledger) → Invariant t l → l .balance -ℤ pos (l .plan) +ℤ pos (standingCost t (l .list)) ≡ settled t (l .list)
 unfolding settled
 settled-is t l s =
-    let c : ℕ = kept (l .list) + credits (l .list) in
-    let d : ℕ = charges (l .list) + reads t (l .list) in
-    let e : ℕ = standing t (l .list) in
+    let c : ℕ = keptTotal (l .list) + creditTotal (l .list) in
+    let d : ℕ = chargeTotal (l .list) + readCost t (l .list) in
+    let e : ℕ = standingCost t (l .list) in
     rw (s .identity, diff-sub (c + l .plan) (d + e) (l .plan), diff-add (c + l .plan) (d + e + l .plan) e) (diff-eq (c + l .plan + e) (d + e + l .plan) c d (omega arith))
 
 -- ---- a usage day, by its reads and estimates
@@ -61,7 +61,7 @@ module _ (t : Terms) (l : Entries) (u : ℕ) where
   unfolding usageDay
   blank-is = decide (any (readOn u) l) (λ r. simp r) (λ r. decide (any (estimateOn u) l) (λ e. simp (r, e)) (λ e. simp (r, e)))
 
-  pub estimate-cost-is : any (readOn u) l ≡ false → estimateCost (usageDay t l u) ≡ cond (any (estimateOn u) l) (costOf (whOn estimateOn u l) (priceOn t l u)) 0
+  pub estimate-cost-is : any (readOn u) l ≡ false → estimateCost (usageDay t l u) ≡ cond (any (estimateOn u) l) (costOf (whOn l estimateOn u) (priceOn t l u)) 0
   unfolding usageDay
   estimate-cost-is r = decide (any (estimateOn u) l) (λ e. simp (r, e)) (λ e. simp (r, e))
 
@@ -100,25 +100,25 @@ found-costs price u (x ∷ l) = decide (estimateOn u (x .event))
     (λ f. simp f (found-costs price u l))
 
 module _ (t : Terms) (l : Entries) (x : Entry) (past : All (UsedBefore (x .event .day)) l) (now : UsedBefore (x .event .day) x) where
-  cost-stays : (y : Entry) → UsedBefore (x .event .day) y → (isEstimate (y .event) || isRead (y .event)) ≡ true → costIn t (x ∷ l) (y .event) ≡ costIn t l (y .event)
+  cost-stays : (y : Entry) → UsedBefore (x .event .day) y → (isEstimate (y .event) || isRead (y .event)) ≡ true → usageCost t (x ∷ l) (y .event) ≡ usageCost t l (y .event)
   cost-stays y h u = ap (costOf (y .event .wh)) (price-stays t x l (y .event .usage) (h u))
 
-  read-stays : (y : Entry) → UsedBefore (x .event .day) y → cond (isRead (y .event)) (costIn t (x ∷ l) (y .event)) 0 ≡ cond (isRead (y .event)) (costIn t l (y .event)) 0
+  read-stays : (y : Entry) → UsedBefore (x .event .day) y → cond (isRead (y .event)) (usageCost t (x ∷ l) (y .event)) 0 ≡ cond (isRead (y .event)) (usageCost t l (y .event)) 0
   read-stays y h = cond-same (isRead (y .event)) _ _ (λ r. cost-stays y h (rw r (or-true (isEstimate (y .event)))))
 
-  reads-then : reads t (x ∷ l) ≡ reads t l + cond (isRead (x .event)) (costIn t l (x .event)) 0
-  unfolding reads sum
+  reads-then : readCost t (x ∷ l) ≡ readCost t l + cond (isRead (x .event)) (usageCost t l (x .event)) 0
+  unfolding readCost sum
   reads-then = omega (arith, sum-same (UsedBefore (x .event .day)) _ _ (λ y b h. read-stays y h) l past, read-stays x now)
 
   standing-stays : (q : ℕ → Bool) (y : Entry) → UsedBefore (x .event .day) y
-      → cond (isEstimate (y .event) && not (q (y .event .usage))) (costIn t (x ∷ l) (y .event)) 0 ≡ cond (isEstimate (y .event) && not (q (y .event .usage))) (costIn t l (y .event)) 0
+      → cond (isEstimate (y .event) && not (q (y .event .usage))) (usageCost t (x ∷ l) (y .event)) 0 ≡ cond (isEstimate (y .event) && not (q (y .event .usage))) (usageCost t l (y .event)) 0
   standing-stays q y h = cond-same (isEstimate (y .event) && not (q (y .event .usage))) _ _ (λ s. cost-stays y h (rw (both (isEstimate (y .event)) (not (q (y .event .usage))) s .0)))
 
   -- the estimates that stand, at the old prices
-  standing-new : standing t (x ∷ l)
-      ≡ sumOf (λ y b. isEstimate (y .event) && not (any (readOn (y .event .usage)) (x ∷ l))) (λ y. costIn t l (y .event)) l
-      + cond (isEstimate (x .event) && not (any (readOn (x .event .usage)) (x ∷ l))) (costIn t l (x .event)) 0
-  unfolding standing sum
+  standing-new : standingCost t (x ∷ l)
+      ≡ sumOf (λ y b. isEstimate (y .event) && not (any (readOn (y .event .usage)) (x ∷ l))) (λ y. usageCost t l (y .event)) l
+      + cond (isEstimate (x .event) && not (any (readOn (x .event .usage)) (x ∷ l))) (usageCost t l (x .event)) 0
+  unfolding standingCost sum
   standing-new = omega (
     arith,
     sum-same (UsedBefore (x .event .day)) _ _ (λ y b h. standing-stays (λ v. any (readOn v) (x ∷ l)) y h) l past,
@@ -127,9 +127,9 @@ module _ (t : Terms) (l : Entries) (x : Entry) (past : All (UsedBefore (x .event
 
 -- the estimate that a read replaces
 pub replaced : (t : Terms) (l : Entries) (u : ℕ) → count (estimateOn u) l ≤ 1 → any (readOn u) l ≡ false
-    → sumOf (λ y b. isEstimate (y .event) && eqb (y .event .usage) u) (λ y. costIn t l (y .event)) l ≡ estimateCost (usageDay t l u)
+    → sumOf (λ y b. isEstimate (y .event) && eqb (y .event .usage) u) (λ y. usageCost t l (y .event)) l ≡ estimateCost (usageDay t l u)
 replaced t l u h f =
-    one-weighs (λ y b. estimateOn u (y .event)) (λ y. costIn t l (y .event)) (nothing-costs (priceOn t l 0)) l (omega (arith, count-weighs (estimateOn u) l))
+    one-weighs (λ y b. estimateOn u (y .event)) (λ y. usageCost t l (y .event)) (nothing-costs (priceOn t l 0)) l (omega (arith, count-weighs (estimateOn u) l))
     ∙ found-costs (priceOn t l) u l
     ∙ sym (estimate-cost-is t l u f)
 
@@ -142,10 +142,10 @@ inflow t l e = cond (isPay e) (e .amount) 0 + cond (isCredit e) (e .amount) 0 + 
 
 outflow : Terms → Ledger → Event → ℕ
 outflow t l e =
-    cond (isReverse e) (payment (e .number) (l .list) .event .amount) 0
+    cond (isReverse e) (payment (l .list) (e .number) .event .amount) 0
     + cond (isCharge e) (e .amount) 0
-    + cond (isEstimate e) (eventCost t l e) 0
-    + cond (isRead e) (eventCost t l e) 0
+    + cond (isEstimate e) (usageCost t (l .list) e) 0
+    + cond (isRead e) (usageCost t (l .list) e) 0
 
 module _ (t : Terms) (l : Ledger) (e : Event) (p : ℕ) (s : Invariant t l) (a : Accepted t l e) where
   past-then : All (UsedBefore (e .day)) (l .list)
@@ -169,39 +169,39 @@ module _ (t : Terms) (l : Ledger) (e : Event) (p : ℕ) (s : Invariant t l) (a :
       let d : UsageDay = usageDay t (l .list) (e .usage) in
       sym (metered-is t (l .list) (e .usage)) ∙ (simp r at (neither (isEstimate e && not (isBlank d)) (isRead e && isMetered d) (a .rule 8) .1))
 
-  pub standing-then : standing t (entryOf e p ∷ l .list) + cond (isRead e) (estimateCost (usageDay t (l .list) (e .usage))) 0
-      ≡ standing t (l .list) + cond (isEstimate e) (costIn t (l .list) e) 0
-  unfolding standing any
+  pub standing-then : standingCost t (entryOf e p ∷ l .list) + cond (isRead e) (estimateCost (usageDay t (l .list) (e .usage))) 0
+      ≡ standingCost t (l .list) + cond (isEstimate e) (usageCost t (l .list) e) 0
+  unfolding standingCost any
   standing-then = decide (isRead e)
       (λ r. let i : isEstimate e ≡ false = other (e .sort) 6 5 refl r in
       let f : any (readOn (e .usage)) (l .list) ≡ false = unread r in
       simp (r, i) (omega (
         arith,
         simp (r, i) at new,
-        take-out (λ y. isEstimate (y .event)) (λ y b. y .event .usage) (λ y. costIn t (l .list) (y .event)) (λ v. any (readOn v) (l .list)) (e .usage) f (l .list),
+        take-out (λ y. isEstimate (y .event)) (λ y b. y .event .usage) (λ y. usageCost t (l .list) (y .event)) (λ v. any (readOn v) (l .list)) (e .usage) f (l .list),
         replaced t (l .list) (e .usage) (s .once (e .usage)) f,
       )))
       (λ r. decide (isEstimate e)
       (λ i. simp (r, i) (omega (arith, simp (r, i, blank-before i .0) at new)))
       (λ i. simp (r, i) (omega (arith, simp (r, i) at new))))
     where
-      new : standing t (entryOf e p ∷ l .list)
-          ≡ sumOf (λ y b. isEstimate (y .event) && not (any (readOn (y .event .usage)) (entryOf e p ∷ l .list))) (λ y. costIn t (l .list) (y .event)) (l .list)
-          + cond (isEstimate e && not (any (readOn (e .usage)) (entryOf e p ∷ l .list))) (costIn t (l .list) e) 0
+      new : standingCost t (entryOf e p ∷ l .list)
+          ≡ sumOf (λ y b. isEstimate (y .event) && not (any (readOn (y .event .usage)) (entryOf e p ∷ l .list))) (λ y. usageCost t (l .list) (y .event)) (l .list)
+          + cond (isEstimate e && not (any (readOn (e .usage)) (entryOf e p ∷ l .list))) (usageCost t (l .list) e) 0
       new = standing-new t (l .list) (entryOf e p) past-then used-before
 
-  unreversed : reversed (payments (l .list)) (l .list) ≡ false
-  unreversed = decide (reversed (payments (l .list)) (l .list)) (λ r. absurd (omega (arith, s .numbers _ r))) (λ f. f)
+  unreversed : reversed (l .list) (paymentCount (l .list)) ≡ false
+  unreversed = decide (reversed (l .list) (paymentCount (l .list))) (λ r. absurd (omega (arith, s .numbers _ r))) (λ f. f)
 
-  kept-then : kept (entryOf e p ∷ l .list) + cond (isReverse e) (payment (e .number) (l .list) .event .amount) 0
-      ≡ kept (l .list) + cond (isPay e) (e .amount) 0
-  unfolding kept sum reversed any payment refusals
+  kept-then : keptTotal (entryOf e p ∷ l .list) + cond (isReverse e) (payment (l .list) (e .number) .event .amount) 0
+      ≡ keptTotal (l .list) + cond (isPay e) (e .amount) 0
+  unfolding keptTotal sum reversed any payment refusals
   kept-then = decide (isReverse e)
       (λ r. let i : isPay e ≡ false = other (e .sort) 2 1 refl r in
-      let f : reversed (e .number) (l .list) ≡ false = neither (leb (payments (l .list)) (e .number)) (reversed (e .number) (l .list)) (simp r at (a .rule 6)) .1 in
+      let f : reversed (l .list) (e .number) ≡ false = neither (leb (paymentCount (l .list)) (e .number)) (reversed (l .list) (e .number)) (simp r at (a .rule 6)) .1 in
       simp (r, i) (omega (
         arith,
-        take-out (λ y. isPay (y .event)) (λ y b. payments b) (λ y. y .event .amount) (λ n. reversed n (l .list)) (e .number) f (l .list),
+        take-out (λ y. isPay (y .event)) (λ y b. paymentCount b) (λ y. y .event .amount) (λ n. reversed (l .list) n) (e .number) f (l .list),
         one-weighs (hasNumber (e .number)) (λ y. y .event .amount) refl (l .list) (given-once (e .number) (l .list)),
       )))
       (λ r. decide (isPay e)
@@ -209,83 +209,83 @@ module _ (t : Terms) (l : Ledger) (e : Event) (p : ℕ) (s : Invariant t l) (a :
       (λ i. simp (r, i) (omega arith)))
 
   net : let k = entryOf e p ∷ l .list in
-      kept k + credits k + (charges (l .list) + reads t (l .list) + standing t (l .list)) + outflow t l e
-      ≡ kept (l .list) + credits (l .list) + (charges k + reads t k + standing t k) + inflow t l e
-  unfolding credits charges sum inflow outflow
+      keptTotal k + creditTotal k + (chargeTotal (l .list) + readCost t (l .list) + standingCost t (l .list)) + outflow t l e
+      ≡ keptTotal (l .list) + creditTotal (l .list) + (chargeTotal k + readCost t k + standingCost t k) + inflow t l e
+  unfolding creditTotal chargeTotal sum inflow outflow
   net = omega (arith, kept-then, standing-then, reads-then t (l .list) (entryOf e p) past-then used-before)
 
 -- ---- what one event does to B and R
 
-record Fits (t : Terms) (l : Ledger) (e : Event) (m : Move) : Type 0 where
-  fits : let k = entryOf e (m .part) ∷ l .list in m .balance ≡ diff (kept k + credits k + m .plan) (charges k + reads t k + standing t k)
+record Fits (t : Terms) (l : Ledger) (e : Event) (m : Effect) : Type 0 where
+  fits : let k = entryOf e (m .part) ∷ l .list in m .balance ≡ diff (keptTotal k + creditTotal k + m .plan) (chargeTotal k + readCost t k + standingCost t k)
   least : m .part ≤ e .amount
 
 module _ (t : Terms) (l : Ledger) (e : Event) (s : Invariant t l) (a : Accepted t l e) where
   -- B moves by i - o, R as the flow leaves it
-  settle : (m : Move) (i o : ℕ) → m .balance ≡ l .balance +ℤ pos i -ℤ pos o → l .plan + i + outflow t l e ≡ m .plan + o + inflow t l e → m .part ≤ e .amount → Fits t l e m
+  settle : (m : Effect) (i o : ℕ) → m .balance ≡ l .balance +ℤ pos i -ℤ pos o → l .plan + i + outflow t l e ≡ m .plan + o + inflow t l e → m .part ≤ e .amount → Fits t l e m
   settle m i o b f h =
       let k : Entries = entryOf e (m .part) ∷ l .list in
-      let c : ℕ = kept (l .list) + credits (l .list) + l .plan in
-      let d : ℕ = charges (l .list) + reads t (l .list) + standing t (l .list) in
+      let c : ℕ = keptTotal (l .list) + creditTotal (l .list) + l .plan in
+      let d : ℕ = chargeTotal (l .list) + readCost t (l .list) + standingCost t (l .list) in
       record {
-        fits = b ∙ rw (s .identity, diff-add c d i, diff-sub (c + i) d o) (diff-eq (c + i) (d + o) (kept k + credits k + m .plan) (charges k + reads t k + standing t k) (omega (arith, net t l e (m .part) s a)));
+        fits = b ∙ rw (s .identity, diff-add c d i, diff-sub (c + i) d o) (diff-eq (c + i) (d + o) (keptTotal k + creditTotal k + m .plan) (chargeTotal k + readCost t k + standingCost t k) (omega (arith, net t l e (m .part) s a)));
         least = h;
       }
 
-  pay-fits : e .sort ≡ 1 → Fits t l e (payMove t l e)
-  unfolding payMove planPart inflow outflow
+  pay-fits : e .sort ≡ 1 → Fits t l e (payEffect t l e)
+  unfolding payEffect planPart inflow outflow
   pay-fits k =
       let p : ℕ = planPart t l (e .amount) in
       let h : p ≤ e .amount = omega (arith, mul-le-mul-left (e .amount) (s .share)) in
-      settle (payMove t l e) (e .amount - p) 0 (simp +ℤ-idr) (rw k (omega arith)) (omega arith)
+      settle (payEffect t l e) (e .amount - p) 0 (simp +ℤ-idr) (rw k (omega arith)) (omega arith)
 
-  reverse-fits : e .sort ≡ 2 → Fits t l e (reverseMove l e)
-  unfolding reverseMove inflow outflow
-  reverse-fits k = settle (reverseMove l e) 0 (payment (e .number) (l .list) .event .amount - payment (e .number) (l .list) .part) (simp +ℤ-idr) (rw k (omega (arith, s .parts (e .number)))) (omega arith)
+  reverse-fits : e .sort ≡ 2 → Fits t l e (reverseEffect l e)
+  unfolding reverseEffect inflow outflow
+  reverse-fits k = settle (reverseEffect l e) 0 (payment (l .list) (e .number) .event .amount - payment (l .list) (e .number) .part) (simp +ℤ-idr) (rw k (omega (arith, s .parts (e .number)))) (omega arith)
 
-  credit-fits : e .sort ≡ 3 → Fits t l e (balanceMove l 0 (l .balance +ℤ pos (e .amount)))
+  credit-fits : e .sort ≡ 3 → Fits t l e (balanceEffect l 0 (l .balance +ℤ pos (e .amount)))
   unfolding inflow outflow
   credit-fits k = settle _ (e .amount) 0 (simp +ℤ-idr) (rw k (omega arith)) (omega arith)
 
-  charge-fits : e .sort ≡ 4 → Fits t l e (balanceMove l 0 (l .balance -ℤ pos (e .amount)))
+  charge-fits : e .sort ≡ 4 → Fits t l e (balanceEffect l 0 (l .balance -ℤ pos (e .amount)))
   unfolding inflow outflow
   charge-fits k = settle _ 0 (e .amount) (simp +ℤ-idr) (rw k (omega arith)) (omega arith)
 
-  estimate-fits : e .sort ≡ 5 → Fits t l e (estimateMove t l e)
-  unfolding estimateMove inflow outflow
-  estimate-fits k = settle (estimateMove t l e) 0 (eventCost t l e) (simp +ℤ-idr) (rw k (omega arith)) (omega arith)
+  estimate-fits : e .sort ≡ 5 → Fits t l e (estimateEffect t l e)
+  unfolding estimateEffect inflow outflow
+  estimate-fits k = settle (estimateEffect t l e) 0 (usageCost t (l .list) e) (simp +ℤ-idr) (rw k (omega arith)) (omega arith)
 
-  read-fits : e .sort ≡ 6 → Fits t l e (readMove t l e)
-  unfolding readMove inflow outflow
-  read-fits k = settle (readMove t l e) (estimateCost (usageDay t (l .list) (e .usage))) (eventCost t l e) refl (rw k (omega arith)) (omega arith)
+  read-fits : e .sort ≡ 6 → Fits t l e (readEffect t l e)
+  unfolding readEffect inflow outflow
+  read-fits k = settle (readEffect t l e) (estimateCost (usageDay t (l .list) (e .usage))) (usageCost t (l .list) e) refl (rw k (omega arith)) (omega arith)
 
   -- a plan is for a B below 0
-  owes : planAllowed t l e ≡ true → (n : ℕ) → l .balance ≡ pos n → ⊥
-  unfolding planAllowed
+  owes : mayDefer t l e ≡ true → (n : ℕ) → l .balance ≡ pos n → ⊥
+  unfolding mayDefer
   owes h n b = decide (eqb (e .kind) 1)
       (λ k. true≢false (sym (simp (k, b) at h)))
       (λ k. omega (arith, ltb-true n 0 (simp (k, b) at h)))
 
   -- and D takes it to `connect`
-  deferred-is : planAllowed t l e ≡ true → pos (t .connect) ≡ l .balance +ℤ pos (deferred t l)
+  deferred-is : mayDefer t l e ≡ true → pos (t .connect) ≡ l .balance +ℤ pos (deferred t l)
   unfolding deferred
   deferred-is h =
-      let c : ℕ = kept (l .list) + credits (l .list) + l .plan in
-      let d : ℕ = charges (l .list) + reads t (l .list) + standing t (l .list) in
+      let c : ℕ = keptTotal (l .list) + creditTotal (l .list) + l .plan in
+      let d : ℕ = chargeTotal (l .list) + readCost t (l .list) + standingCost t (l .list) in
       let short : c ≤ d = by-sign c d (λ g. absurd (owes h (c - d) (s .identity ∙ diff-high c d g))) (λ g. omega arith) in
       rw (s .identity, diff-gap c d (t .connect) short, diff-add c d (t .connect + d - c)) (diff-zero (t .connect) ∙ diff-eq (t .connect) 0 (c + (t .connect + d - c)) d (omega arith))
 
-  plan-fits : isPlan e ≡ true → Fits t l e (planMove t l)
-  unfolding planMove inflow outflow refusals
-  plan-fits y = settle (planMove t l) (deferred t l) 0 (simp +ℤ-idr (deferred-is (not-false (planAllowed t l e) (simp y at (a .rule 9))))) (rw (eqb-true (e .sort) 9 y) (omega arith)) (omega arith)
+  plan-fits : isPlan e ≡ true → Fits t l e (planEffect t l)
+  unfolding planEffect inflow outflow refusals
+  plan-fits y = settle (planEffect t l) (deferred t l) 0 (simp +ℤ-idr (deferred-is (not-false (mayDefer t l e) (simp y at (a .rule 9))))) (rw (eqb-true (e .sort) 9 y) (omega arith)) (omega arith)
 
   -- the rest move nothing
-  still : isPay e ≡ false → isReverse e ≡ false → isCredit e ≡ false → isCharge e ≡ false → isEstimate e ≡ false → isRead e ≡ false → (b : Bool) → Fits t l e (serviceMove l b)
+  still : isPay e ≡ false → isReverse e ≡ false → isCredit e ≡ false → isCharge e ≡ false → isEstimate e ≡ false → isRead e ≡ false → (b : Bool) → Fits t l e (serviceEffect l b)
   unfolding inflow outflow
-  still f₁ f₂ f₃ f₄ f₅ f₆ b = settle (serviceMove l b) 0 0 (simp +ℤ-idr) (simp (f₁, f₂, f₃, f₄, f₅, f₆) (omega arith)) (omega arith)
+  still f₁ f₂ f₃ f₄ f₅ f₆ b = settle (serviceEffect l b) 0 0 (simp +ℤ-idr) (simp (f₁, f₂, f₃, f₄, f₅, f₆) (omega arith)) (omega arith)
 
-  move-fits : Fits t l e (moveOf t l e)
-  unfolding moveOf
+  move-fits : Fits t l e (effectOf t l e)
+  unfolding effectOf
   move-fits =
       decide (isPay e) (λ k. simp k (pay-fits (eqb-true (e .sort) 1 k)))
       (λ f₁. decide (isReverse e) (λ k. simp (f₁, k) (reverse-fits (eqb-true (e .sort) 2 k)))
@@ -300,15 +300,15 @@ module _ (t : Terms) (l : Ledger) (e : Event) (s : Invariant t l) (a : Accepted 
 
   -- ---- what else stays
 
-  numbers-then : (p n : ℕ) → reversed n (entryOf e p ∷ l .list) ≡ true → n < payments (entryOf e p ∷ l .list)
-  unfolding reversed any payments count refusals
+  numbers-then : (p n : ℕ) → reversed (entryOf e p ∷ l .list) n ≡ true → n < paymentCount (entryOf e p ∷ l .list)
+  unfolding reversed any paymentCount count refusals
   numbers-then p n r = decide (isReverse e && eqb (e .number) n)
       (λ y. let b = both (isReverse e) (eqb (e .number) n) y in
-      let given = leb-false (payments (l .list)) (e .number) (neither (leb (payments (l .list)) (e .number)) (reversed (e .number) (l .list)) (simp (b .0) at (a .rule 6)) .0) in
+      let given = leb-false (paymentCount (l .list)) (e .number) (neither (leb (paymentCount (l .list)) (e .number)) (reversed (l .list) (e .number)) (simp (b .0) at (a .rule 6)) .0) in
       omega (arith, given, eqb-true (e .number) n (b .1)))
       (λ f. omega (arith, s .numbers n (simp f at r)))
 
-  parts-then : (p n : ℕ) → p ≤ e .amount → payment n (entryOf e p ∷ l .list) .part ≤ payment n (entryOf e p ∷ l .list) .event .amount
+  parts-then : (p n : ℕ) → p ≤ e .amount → payment (entryOf e p ∷ l .list) n .part ≤ payment (entryOf e p ∷ l .list) n .event .amount
   unfolding payment find
   parts-then p n h = decide (hasNumber n (entryOf e p) (l .list)) (λ y. simp y h) (λ f. simp f (s .parts n))
 
@@ -319,7 +319,7 @@ module _ (t : Terms) (l : Ledger) (e : Event) (s : Invariant t l) (a : Accepted 
       simp y (omega (arith, none-counts (estimateOn u) (l .list) (rw (eqb-true (e .usage) u (b .1)) at (blank-before t l e p s a (b .0) .1)))))
       (λ f. simp f (omega (arith, s .once u)))
 
-  invariant-then : (m : Move) → Fits t l e m → Invariant t (moved l e m)
+  invariant-then : (m : Effect) → Fits t l e m → Invariant t (joined l e m)
   unfolding lastDay
   invariant-then m f = record {
     identity = f .fits;
@@ -333,5 +333,5 @@ module _ (t : Terms) (l : Ledger) (e : Event) (s : Invariant t l) (a : Accepted 
 pub invariant-step : (t : Terms) (l : Ledger) (e : Event) → Invariant t l → Invariant t (ledgerStep t l e .ledger)
 unfolding ledgerStep
 invariant-step t l e s = decide (accepts t l e)
-    (λ y. simp y (let a = accepted-by t l e y in invariant-then t l e s a (moveOf t l e) (move-fits t l e s a)))
+    (λ y. simp y (let a = accepted-by t l e y in invariant-then t l e s a (effectOf t l e) (move-fits t l e s a)))
     (λ n. simp n s)

@@ -8,7 +8,7 @@ use native.Mathlib.Omega.{arith}
 use lib.Dec.{eqb}
 use borrow.Author.Tests.{eqb-true, eqb-false, eq-eqb, ne-eqb}
 use Rattle.ledger.specs.Event.{isPay}
-use Rattle.ledger.specs.Entries.{Entry, Entries, count, sum, sumOf, noEntry, find, payments, hasNumber}
+use Rattle.ledger.specs.Entries.{Entry, Entries, count, sum, sumOf, noEntry, find, paymentCount, hasNumber}
 use Rattle.ledger.specs.Invariant.{All}
 use Rattle.ledger.proofs.Cases.{decide, both}
 
@@ -55,16 +55,16 @@ one-weighs m w z (x ∷ l) h = decide (m x l)
     (λ f. simp f (omega (arith, one-weighs m w z l (omega (arith, simp f at h)))))
 
 -- a number not given yet has no payment, and every number one at the most
-not-given : (n : ℕ) (l : Entries) → payments l ≤ n → sumOf (hasNumber n) (λ x. 1) l ≡ 0
-unfolding sum payments count
+not-given : (n : ℕ) (l : Entries) → paymentCount l ≤ n → sumOf (hasNumber n) (λ x. 1) l ≡ 0
+unfolding sum paymentCount count
 not-given n [] h = refl
 not-given n (x ∷ l) h = decide (isPay (x .event))
-    (λ t. let h′ : suc (payments l) ≤ n = omega (arith, simp t at h) in simp (t, ne-eqb (payments l) n (λ e. omega arith)) (omega (arith, not-given n l (omega arith))))
+    (λ t. let h′ : suc (paymentCount l) ≤ n = omega (arith, simp t at h) in simp (t, ne-eqb (paymentCount l) n (λ e. omega arith)) (omega (arith, not-given n l (omega arith))))
     (λ f. simp f (omega (arith, not-given n l (omega (arith, simp f at h)))))
 
 pub given-once : (n : ℕ) (l : Entries) → sumOf (hasNumber n) (λ x. 1) l ≤ 1
 unfolding sum
 given-once n [] = omega arith
 given-once n (x ∷ l) = decide (hasNumber n x l)
-    (λ t. simp t (omega (arith, not-given n l (omega (arith, eqb-true (payments l) n (both (isPay (x .event)) _ t .1))))))
+    (λ t. simp t (omega (arith, not-given n l (omega (arith, eqb-true (paymentCount l) n (both (isPay (x .event)) _ t .1))))))
     (λ f. simp f (omega (arith, given-once n l)))

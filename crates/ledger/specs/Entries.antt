@@ -58,38 +58,38 @@ lastDay [] = 0
 lastDay (x ∷ l) = x .event .day
 
 -- "the counts of events and payments": the payments; the events are the length of L.
-unfoldable pub payments : Entries → ℕ
-payments l = count isPay l
+unfoldable pub paymentCount : Entries → ℕ
+paymentCount l = count isPay l
 
 -- "a payment by its number", "the payment's number, from 0": as many payments came before it.
 abbrev pub hasNumber : ℕ → Entry → Entries → Bool
-hasNumber n x before = isPay (x .event) && eqb (payments before) n
+hasNumber n x before = isPay (x .event) && eqb (paymentCount before) n
 
-unfoldable pub payment : ℕ → Entries → Entry
-payment n l = find (hasNumber n) l
+unfoldable pub payment : Entries → ℕ → Entry
+payment l n = find (hasNumber n) l
 
 -- "reversed if L has a reverse of it"
-unfoldable pub reversed : ℕ → Entries → Bool
-reversed n l = any (λ (e : Event). isReverse e && eqb (e .number) n) l
+unfoldable pub reversed : Entries → ℕ → Bool
+reversed l n = any (λ (e : Event). isReverse e && eqb (e .number) n) l
 
 -- a payment kept, and a payment reversed: its number is the count of those before it
 abbrev pub isKept : Entries → Entry → Entries → Bool
-isKept l x before = isPay (x .event) && not (reversed (payments before) l)
+isKept l x before = isPay (x .event) && not (reversed l (paymentCount before))
 
 abbrev pub isReversed : Entries → Entry → Entries → Bool
-isReversed l x before = isPay (x .event) && reversed (payments before) l
+isReversed l x before = isPay (x .event) && reversed l (paymentCount before)
 
 -- "some accepted warning was issued on a day w with 1 ≤ x − w ≤ 7"
-unfoldable pub warned : ℕ → Entries → Bool
-warned x l = any (λ (e : Event). isWarn e && (leb (e .day + 1) x && leb x (e .day + 7))) l
+unfoldable pub warned : Entries → ℕ → Bool
+warned l x = any (λ (e : Event). isWarn e && (leb (e .day + 1) x && leb x (e .day + 7))) l
 
 -- The price in force on usage day u: the opening price on every day.
 unfoldable pub priceOn : Terms → Entries → ℕ → ℕ
 priceOn t l u = t .price
 
 -- the cost of an event's Wh on its usage day
-abbrev pub costIn : Terms → Entries → Event → ℕ
-costIn t l e = costOf (e .wh) (priceOn t l (e .usage))
+abbrev pub usageCost : Terms → Entries → Event → ℕ
+usageCost t l e = costOf (e .wh) (priceOn t l (e .usage))
 
 -- "A usage day is metered if L has a read of it, else estimated if L has an estimate of it, else blank; its cost is that event's."
 pub data UsageDay : Type 0 where
@@ -104,13 +104,13 @@ abbrev pub estimateOn : ℕ → Event → Bool
 estimateOn u e = isEstimate e && eqb (e .usage) u
 
 -- the Wh of the event on usage day u that p picks
-abbrev pub whOn : (ℕ → Event → Bool) → ℕ → Entries → ℕ
-whOn p u l = find (λ (x : Entry) (before : Entries). p u (x .event)) l .event .wh
+abbrev pub whOn : Entries → (ℕ → Event → Bool) → ℕ → ℕ
+whOn l p u = find (λ (x : Entry) (before : Entries). p u (x .event)) l .event .wh
 
 unfoldable pub usageDay : Terms → Entries → ℕ → UsageDay
 usageDay t l u =
-    cond (any (readOn u) l) (metered (whOn readOn u l) (costOf (whOn readOn u l) (priceOn t l u)))
-    (cond (any (estimateOn u) l) (estimated (whOn estimateOn u l) (costOf (whOn estimateOn u l) (priceOn t l u))) blank)
+    cond (any (readOn u) l) (metered (whOn l readOn u) (costOf (whOn l readOn u) (priceOn t l u)))
+    (cond (any (estimateOn u) l) (estimated (whOn l estimateOn u) (costOf (whOn l estimateOn u) (priceOn t l u))) blank)
 
 abbrev pub isBlank : UsageDay → Bool
 isBlank blank = true
@@ -129,20 +129,20 @@ estimateCost (estimated wh cost) = cost
 estimateCost (metered wh cost) = 0
 
 -- "A mark in L covers days `from` to `to`."
-unfoldable pub covered : ℕ → ℕ → Entries → Bool
-covered kind d l = any (λ (e : Event). isMark e && (eqb (e .kind) kind && (leb (e .from) d && leb d (e .to)))) l
+unfoldable pub covered : Entries → ℕ → ℕ → Bool
+covered l kind d = any (λ (e : Event). isMark e && (eqb (e .kind) kind && (leb (e .from) d && leb d (e .to)))) l
 
 -- "A weather day is one covered by kind 1."
 abbrev pub weather : Entries → ℕ → Bool
-weather l d = covered 1 d l
+weather l d = covered l 1 d
 
 -- Monday is 0, Saturday 5, Sunday 6.
 abbrev pub weekday : Terms → ℕ → ℕ
 weekday t d = weekdayOf (dateOn (t .opened) d)
 
 -- "A barred day is a Saturday, a Sunday or a covered day."
-unfoldable pub barred : Terms → ℕ → Entries → Bool
-barred t d l = leb 5 (weekday t d) || (covered 1 d l || (covered 2 d l || covered 3 d l))
+unfoldable pub barred : Terms → Entries → ℕ → Bool
+barred t l d = leb 5 (weekday t d) || (covered l 1 d || (covered l 2 d || covered l 3 d))
 
 -- "Business days are Monday to Friday."
 unfoldable pub business : Terms → Entries → ℕ → Bool
@@ -153,5 +153,5 @@ abbrev pub businessDays : Terms → Entries → ℕ → ℕ → ℕ
 businessDays t l w x = countDays (λ (d : ℕ). ltb w d && business t l d) (suc x)
 
 -- "some weather day w ≤ x has at most one business day among days w+1 to x"
-unfoldable pub weatherNear : Terms → Entries → ℕ → Bool
-weatherNear t l x = anyDay (λ (w : ℕ). weather l w && leb (businessDays t l w x) 1) (suc x)
+unfoldable pub weatherRecent : Terms → Entries → ℕ → Bool
+weatherRecent t l x = anyDay (λ (w : ℕ). weather l w && leb (businessDays t l w x) 1) (suc x)

@@ -69,37 +69,37 @@ connect x = event 11 x 0 0 0 0 0 0
 abbrev pub terms : Terms
 terms = record { opened = date 2024 1 1; price = 1250; connect = 5000; cutoff = 1000; share = 50 }
 
-abbrev pub row : List Event → ℕ → ℕ → ℤ → ℕ → Bool → Figure
-row es code value b r on = record { terms = terms; events = es; expected = record { code = code; value = value; balance = b; plan = r; on = on } }
+abbrev pub figure : List Event → ℕ → ℕ → ℤ → ℕ → Bool → Figure
+figure es code value b r on = record { terms = terms; events = es; expected = record { code = code; value = value; balance = b; plan = r; on = on } }
 
 unfoldable pub figures : List Figure
 figures =
     -- "Price 1250: 39 Wh cost 0, 40 Wh cost 1, 30,000 cost 375, 32,000 cost 400."
-    row (read 1 0 39 ∷ []) 0 0 (pos 0) 0 false
-    ∷ row (read 1 0 40 ∷ []) 0 1 (negℤ (pos 1)) 0 false
-    ∷ row (estimate 1 0 30000 ∷ []) 0 375 (negℤ (pos 375)) 0 false
-    ∷ row (estimate 1 0 30000 ∷ read 1 0 32000 ∷ []) 0 400 (negℤ (pos 400)) 0 false
+    figure (read 1 0 39 ∷ []) 0 0 (pos 0) 0 false
+    ∷ figure (read 1 0 40 ∷ []) 0 1 (negℤ (pos 1)) 0 false
+    ∷ figure (estimate 1 0 30000 ∷ []) 0 375 (negℤ (pos 375)) 0 false
+    ∷ figure (estimate 1 0 30000 ∷ read 1 0 32000 ∷ []) 0 400 (negℤ (pos 400)) 0 false
     -- "Cutoff 1000: B 1000 is refused 12, B 999 passes."
-    ∷ row (pay 0 5000 ∷ connect 0 ∷ charge 0 4000 ∷ warn 3 ∷ disconnect 4 ∷ []) 12 0 (pos 1000) 0 true
-    ∷ row (pay 0 5000 ∷ connect 0 ∷ charge 0 4001 ∷ warn 3 ∷ disconnect 4 ∷ []) 0 0 (pos 999) 0 false
+    ∷ figure (pay 0 5000 ∷ connect 0 ∷ charge 0 4000 ∷ warn 3 ∷ disconnect 4 ∷ []) 12 0 (pos 1000) 0 true
+    ∷ figure (pay 0 5000 ∷ connect 0 ∷ charge 0 4001 ∷ warn 3 ∷ disconnect 4 ∷ []) 0 0 (pos 999) 0 false
     -- "Warned on day 3 only: day 3 is 13, days 4 and 10 pass, day 11 is 13."
-    ∷ row (pay 0 5000 ∷ connect 0 ∷ charge 0 4001 ∷ warn 3 ∷ disconnect 3 ∷ []) 13 0 (pos 999) 0 true
-    ∷ row (pay 0 5000 ∷ connect 0 ∷ charge 0 4001 ∷ warn 3 ∷ disconnect 4 ∷ []) 0 0 (pos 999) 0 false
-    ∷ row (pay 0 5000 ∷ connect 0 ∷ charge 0 4001 ∷ warn 3 ∷ disconnect 10 ∷ []) 0 0 (pos 999) 0 false
-    ∷ row (pay 0 5000 ∷ connect 0 ∷ charge 0 4001 ∷ warn 3 ∷ disconnect 11 ∷ []) 13 0 (pos 999) 0 true
+    ∷ figure (pay 0 5000 ∷ connect 0 ∷ charge 0 4001 ∷ warn 3 ∷ disconnect 3 ∷ []) 13 0 (pos 999) 0 true
+    ∷ figure (pay 0 5000 ∷ connect 0 ∷ charge 0 4001 ∷ warn 3 ∷ disconnect 4 ∷ []) 0 0 (pos 999) 0 false
+    ∷ figure (pay 0 5000 ∷ connect 0 ∷ charge 0 4001 ∷ warn 3 ∷ disconnect 10 ∷ []) 0 0 (pos 999) 0 false
+    ∷ figure (pay 0 5000 ∷ connect 0 ∷ charge 0 4001 ∷ warn 3 ∷ disconnect 11 ∷ []) 13 0 (pos 999) 0 true
     -- "B −6000, `connect` 5000: D 11000. Then pay 4001 at share 50: 2000 to the plan, 2001 to B."
-    ∷ row (charge 0 6000 ∷ plan 0 2 ∷ []) 0 11000 (pos 5000) 11000 false
-    ∷ row (charge 0 6000 ∷ plan 0 2 ∷ pay 0 4001 ∷ []) 0 0 (pos 7001) 9000 false
+    ∷ figure (charge 0 6000 ∷ plan 0 2 ∷ []) 0 11000 (pos 5000) 11000 false
+    ∷ figure (charge 0 6000 ∷ plan 0 2 ∷ pay 0 4001 ∷ []) 0 0 (pos 7001) 9000 false
     -- "Weather on Friday, day 4: plan kind 1 passes on day 7, is 9 on day 8; B −4999 is 9."
-    ∷ row (mark 0 1 4 4 ∷ charge 0 5000 ∷ plan 7 1 ∷ []) 0 10000 (pos 5000) 10000 false
-    ∷ row (mark 0 1 4 4 ∷ charge 0 5000 ∷ plan 8 1 ∷ []) 9 0 (negℤ (pos 5000)) 0 false
-    ∷ row (mark 0 1 4 4 ∷ charge 0 4999 ∷ plan 7 1 ∷ []) 9 0 (negℤ (pos 4999)) 0 false
+    ∷ figure (mark 0 1 4 4 ∷ charge 0 5000 ∷ plan 7 1 ∷ []) 0 10000 (pos 5000) 10000 false
+    ∷ figure (mark 0 1 4 4 ∷ charge 0 5000 ∷ plan 8 1 ∷ []) 9 0 (negℤ (pos 5000)) 0 false
+    ∷ figure (mark 0 1 4 4 ∷ charge 0 4999 ∷ plan 7 1 ∷ []) 9 0 (negℤ (pos 4999)) 0 false
     -- beside the marked ones: "A barred day is a Saturday, a Sunday or a covered day."
-    ∷ row (pay 0 5000 ∷ connect 0 ∷ charge 0 4001 ∷ warn 3 ∷ disconnect 5 ∷ []) 14 0 (pos 999) 0 true
-    ∷ row (pay 0 5000 ∷ connect 0 ∷ charge 0 4001 ∷ warn 3 ∷ disconnect 6 ∷ []) 14 0 (pos 999) 0 true
-    ∷ row (pay 0 5000 ∷ connect 0 ∷ charge 0 4001 ∷ warn 3 ∷ mark 3 3 4 4 ∷ disconnect 4 ∷ []) 14 0 (pos 999) 0 true
+    ∷ figure (pay 0 5000 ∷ connect 0 ∷ charge 0 4001 ∷ warn 3 ∷ disconnect 5 ∷ []) 14 0 (pos 999) 0 true
+    ∷ figure (pay 0 5000 ∷ connect 0 ∷ charge 0 4001 ∷ warn 3 ∷ disconnect 6 ∷ []) 14 0 (pos 999) 0 true
+    ∷ figure (pay 0 5000 ∷ connect 0 ∷ charge 0 4001 ∷ warn 3 ∷ mark 3 3 4 4 ∷ disconnect 4 ∷ []) 14 0 (pos 999) 0 true
     -- "keeping only the newest warning, so that warnings on days 3 and 4 block a cut on day 4"
-    ∷ row (pay 0 5000 ∷ connect 0 ∷ charge 0 4001 ∷ warn 3 ∷ warn 4 ∷ disconnect 4 ∷ []) 0 0 (pos 999) 0 false
+    ∷ figure (pay 0 5000 ∷ connect 0 ∷ charge 0 4001 ∷ warn 3 ∷ warn 4 ∷ disconnect 4 ∷ []) 0 0 (pos 999) 0 false
     -- "counting R as debt against the cutoff"
-    ∷ row (charge 0 6000 ∷ plan 0 2 ∷ connect 0 ∷ warn 3 ∷ disconnect 4 ∷ []) 12 0 (pos 5000) 11000 true
+    ∷ figure (charge 0 6000 ∷ plan 0 2 ∷ connect 0 ∷ warn 3 ∷ disconnect 4 ∷ []) 12 0 (pos 5000) 11000 true
     ∷ []

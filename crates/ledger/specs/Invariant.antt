@@ -6,8 +6,8 @@ use mathlib.Core.List.{[], _∷_}
 use lib.IntN.{pos, _-ℤ_}
 use Rattle.terms.specs.declared.Terms.{Terms}
 use Rattle.ledger.specs.Event.{isEstimate, isRead}
-use Rattle.ledger.specs.Entries.{Entry, Entries, count, lastDay, payments, payment, reversed, estimateOn}
-use Rattle.ledger.specs.Sums.{kept, credits, charges, reads, standing}
+use Rattle.ledger.specs.Entries.{Entry, Entries, count, lastDay, paymentCount, payment, reversed, estimateOn}
+use Rattle.ledger.specs.Sums.{keptTotal, creditTotal, chargeTotal, readCost, standingCost}
 use Rattle.ledger.specs.Rules.{Ledger}
 
 -- what holds of every entry
@@ -22,13 +22,13 @@ UsedBefore d x = (isEstimate (x .event) || isRead (x .event)) ≡ true → x .ev
 pub record Invariant (t : Terms) (l : Ledger) : Type 0 where
   -- B is what the sums over L and the unpaid plan make it
   pub identity : l .balance
-      ≡ pos (kept (l .list) + credits (l .list) + l .plan) -ℤ pos (charges (l .list) + reads t (l .list) + standing t (l .list))
+      ≡ pos (keptTotal (l .list) + creditTotal (l .list) + l .plan) -ℤ pos (chargeTotal (l .list) + readCost t (l .list) + standingCost t (l .list))
   -- of the terms: enough for `parts`; their limit is 50
   pub share : t .share ≤ 100
   -- only a payment that was made is reversed
-  pub numbers : (n : ℕ) → reversed n (l .list) ≡ true → n < payments (l .list)
+  pub numbers : (n : ℕ) → reversed (l .list) n ≡ true → n < paymentCount (l .list)
   -- what of a payment went to the plan is at most its amount
-  pub parts : (n : ℕ) → payment n (l .list) .part ≤ payment n (l .list) .event .amount
+  pub parts : (n : ℕ) → payment (l .list) n .part ≤ payment (l .list) n .event .amount
   -- a usage day is estimated once at most
   pub once : (u : ℕ) → count (estimateOn u) (l .list) ≤ 1
   -- "u ≥ x" is refused: usage days are before the last day

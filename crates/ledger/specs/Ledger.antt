@@ -8,7 +8,7 @@ use Rattle.terms.specs.declared.Terms.{Terms}
 use Rattle.ledger.specs.declared.Event.{Event}
 use Rattle.ledger.specs.declared.Answer.{Answer}
 use Rattle.ledger.specs.Event.{isPay, isReverse, isCredit, isCharge, isEstimate, isRead, isPlan, isDisconnect, isConnect}
-use Rattle.ledger.specs.Entries.{Entry, payments, payment, costIn, usageDay, estimateCost}
+use Rattle.ledger.specs.Entries.{Entry, paymentCount, payment, usageCost, usageDay, estimateCost}
 use Rattle.ledger.specs.Rules.{Ledger, refusals, firstOf}
 
 -- "At first L is empty, B and R are 0, service is off."
@@ -16,14 +16,14 @@ abbrev pub opening : Ledger
 opening = record { list = []; balance = pos 0; plan = 0; on = false }
 
 -- What an accepted event does: its value, its payment's plan part, and B, R and service after it.
-pub record Move : Type 0 where
+pub record Effect : Type 0 where
   pub value : ℕ
   pub part : ℕ
   pub balance : ℤ
   pub plan : ℕ
   pub on : Bool
 
-abbrev pub effect : ℕ → ℕ → ℤ → ℕ → Bool → Move
+abbrev pub effect : ℕ → ℕ → ℤ → ℕ → Bool → Effect
 effect value part b r on = record { value = value; part = part; balance = b; plan = r; on = on }
 
 -- "Plan part = the smaller of R and amount × share / 100 rounded down."
@@ -31,65 +31,61 @@ unfoldable pub planPart : Terms → Ledger → ℕ → ℕ
 planPart t l amount = min (l .plan) (amount * t .share / 100)
 
 -- "R falls by it; B rises by the rest. Value: the payment's number, from 0."
-unfoldable pub payMove : Terms → Ledger → Event → Move
-payMove t l e =
+unfoldable pub payEffect : Terms → Ledger → Event → Effect
+payEffect t l e =
     let part : ℕ = planPart t l (e .amount) in
-    effect (payments (l .list)) part (l .balance +ℤ pos (e .amount - part)) (l .plan - part) (l .on)
+    effect (paymentCount (l .list)) part (l .balance +ℤ pos (e .amount - part)) (l .plan - part) (l .on)
 
 -- "The payment's own two parts are taken back: B falls, R rises."
-unfoldable pub reverseMove : Ledger → Event → Move
-reverseMove l e =
-    let p : Entry = payment (e .number) (l .list) in
+unfoldable pub reverseEffect : Ledger → Event → Effect
+reverseEffect l e =
+    let p : Entry = payment (l .list) (e .number) in
     effect 0 0 (l .balance -ℤ pos (p .event .amount - p .part)) (l .plan + p .part) (l .on)
 
--- the move of B alone
-abbrev pub balanceMove : Ledger → ℕ → ℤ → Move
-balanceMove l v b = effect v 0 b (l .plan) (l .on)
+-- of B alone
+abbrev pub balanceEffect : Ledger → ℕ → ℤ → Effect
+balanceEffect l v b = effect v 0 b (l .plan) (l .on)
 
--- the move of service alone
-abbrev pub serviceMove : Ledger → Bool → Move
-serviceMove l b = effect 0 0 (l .balance) (l .plan) b
-
--- the cost of the event's Wh on its usage day
-abbrev pub eventCost : Terms → Ledger → Event → ℕ
-eventCost t l e = costIn t (l .list) e
+-- of service alone
+abbrev pub serviceEffect : Ledger → Bool → Effect
+serviceEffect l b = effect 0 0 (l .balance) (l .plan) b
 
 -- "An estimate takes a blank day only, and B falls by its cost."; "Value: the new cost."
-unfoldable pub estimateMove : Terms → Ledger → Event → Move
-estimateMove t l e = balanceMove l (eventCost t l e) (l .balance -ℤ pos (eventCost t l e))
+unfoldable pub estimateEffect : Terms → Ledger → Event → Effect
+estimateEffect t l e = balanceEffect l (usageCost t (l .list) e) (l .balance -ℤ pos (usageCost t (l .list) e))
 
 -- "the old estimate's cost is given back and the read's cost taken"
-unfoldable pub readMove : Terms → Ledger → Event → Move
-readMove t l e =
-    balanceMove l (eventCost t l e)
-    (l .balance +ℤ pos (estimateCost (usageDay t (l .list) (e .usage))) -ℤ pos (eventCost t l e))
+unfoldable pub readEffect : Terms → Ledger → Event → Effect
+readEffect t l e =
+    balanceEffect l (usageCost t (l .list) e)
+    (l .balance +ℤ pos (estimateCost (usageDay t (l .list) (e .usage))) -ℤ pos (usageCost t (l .list) e))
 
 -- "It defers D = connect − B." B is below 0, so D is above 0 and is its own magnitude.
 unfoldable pub deferred : Terms → Ledger → ℕ
 deferred t l = natAbs (pos (t .connect) -ℤ l .balance)
 
 -- "B becomes `connect` and R rises by D. Value: D."
-unfoldable pub planMove : Terms → Ledger → Move
-planMove t l = effect (deferred t l) 0 (pos (t .connect)) (l .plan + deferred t l) (l .on)
+unfoldable pub planEffect : Terms → Ledger → Effect
+planEffect t l = effect (deferred t l) 0 (pos (t .connect)) (l .plan + deferred t l) (l .on)
 
 -- "A credit raises B by its whole amount, a charge lowers it by its own; R stays."; "Service is then off."; "Service is then on."
--- A warn and a mark move nothing.
-unfoldable pub moveOf : Terms → Ledger → Event → Move
-moveOf t l e =
-    cond (isPay e) (payMove t l e)
-    (cond (isReverse e) (reverseMove l e)
-    (cond (isCredit e) (balanceMove l 0 (l .balance +ℤ pos (e .amount)))
-    (cond (isCharge e) (balanceMove l 0 (l .balance -ℤ pos (e .amount)))
-    (cond (isEstimate e) (estimateMove t l e)
-    (cond (isRead e) (readMove t l e)
-    (cond (isPlan e) (planMove t l)
-    (cond (isDisconnect e) (serviceMove l false)
-    (cond (isConnect e) (serviceMove l true)
-    (serviceMove l (l .on))))))))))
+-- A warn and a mark change nothing.
+unfoldable pub effectOf : Terms → Ledger → Event → Effect
+effectOf t l e =
+    cond (isPay e) (payEffect t l e)
+    (cond (isReverse e) (reverseEffect l e)
+    (cond (isCredit e) (balanceEffect l 0 (l .balance +ℤ pos (e .amount)))
+    (cond (isCharge e) (balanceEffect l 0 (l .balance -ℤ pos (e .amount)))
+    (cond (isEstimate e) (estimateEffect t l e)
+    (cond (isRead e) (readEffect t l e)
+    (cond (isPlan e) (planEffect t l)
+    (cond (isDisconnect e) (serviceEffect l false)
+    (cond (isConnect e) (serviceEffect l true)
+    (serviceEffect l (l .on))))))))))
 
 -- "the event joins L, and B, R and service move as above"
-abbrev pub moved : Ledger → Event → Move → Ledger
-moved l e m = record {
+abbrev pub joined : Ledger → Event → Effect → Ledger
+joined l e m = record {
   list = record { event = e; part = m .part } ∷ l .list;
   balance = m .balance;
   plan = m .plan;
@@ -115,7 +111,7 @@ accepts t l e = eqb (refusal t l e) 0
 unfoldable pub ledgerStep : Terms → Ledger → Event → Outcome
 ledgerStep t l e =
     cond (accepts t l e)
-    (record { ledger = moved l e (moveOf t l e); answer = answer 0 (moveOf t l e .value) })
+    (record { ledger = joined l e (effectOf t l e); answer = answer 0 (effectOf t l e .value) })
     (record { ledger = l; answer = answer (refusal t l e) 0 })
 
 -- "fed the terms that made the account, then every event in the order of posting"

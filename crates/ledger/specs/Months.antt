@@ -24,15 +24,15 @@ unfoldable pub hasDays : Terms → ℕ → Bool
 hasDays t m = anyDay (inMonth t m) dayCount
 
 -- "count and sum" of month m's payments that p picks, "by the payment's day"
-unfoldable pub paymentsIn : Terms → ℕ → (Entry → Entries → Bool) → (Entry → ℕ) → Entries → ℕ
-paymentsIn t m p f l = sumOf (λ (x : Entry) (before : Entries). inMonth t m (x .event .day) && p x before) f l
+unfoldable pub paymentsIn : Terms → Entries → ℕ → (Entry → Entries → Bool) → (Entry → ℕ) → ℕ
+paymentsIn t l m p f = sumOf (λ (x : Entry) (before : Entries). inMonth t m (x .event .day) && p x before) f l
 
-abbrev pub countedIn : Terms → ℕ → (Entry → Entries → Bool) → Entries → Counted
-countedIn t m p l = record { count = paymentsIn t m p (λ (x : Entry). 1) l; sum = paymentsIn t m p amountOf l }
+abbrev pub countedIn : Terms → Entries → ℕ → (Entry → Entries → Bool) → Counted
+countedIn t l m p = record { count = paymentsIn t l m p (λ (x : Entry). 1); sum = paymentsIn t l m p amountOf }
 
 -- The sum of f over month m's usage days: "by usage day".
-unfoldable pub usageIn : Terms → ℕ → (UsageDay → ℕ) → Entries → ℕ
-usageIn t m f l = total (λ (u : ℕ). cond (inMonth t m u) (f (usageDay t l u)) 0) dayCount
+unfoldable pub usageIn : Terms → Entries → ℕ → (UsageDay → ℕ) → ℕ
+usageIn t l m f = total (λ (u : ℕ). cond (inMonth t m u) (f (usageDay t l u)) 0) dayCount
 
 abbrev pub meteredWh : UsageDay → ℕ
 meteredWh blank = 0
@@ -50,15 +50,15 @@ estimatedWh (estimated wh cost) = wh
 estimatedWh (metered wh cost) = 0
 
 -- "metered Wh and cost, estimated Wh and cost"
-abbrev pub meteredIn : Terms → ℕ → Entries → Used
-meteredIn t m l = record { wh = usageIn t m meteredWh l; cost = usageIn t m meteredCost l }
+abbrev pub meteredIn : Terms → Entries → ℕ → Used
+meteredIn t l m = record { wh = usageIn t l m meteredWh; cost = usageIn t l m meteredCost }
 
-abbrev pub estimatedIn : Terms → ℕ → Entries → Used
-estimatedIn t m l = record { wh = usageIn t m estimatedWh l; cost = usageIn t m estimateCost l }
+abbrev pub estimatedIn : Terms → Entries → ℕ → Used
+estimatedIn t l m = record { wh = usageIn t l m estimatedWh; cost = usageIn t l m estimateCost }
 
 -- "charges by kind, by event day"
-unfoldable pub chargesIn : Terms → ℕ → ℕ → Entries → ℕ
-chargesIn t m kind l =
+unfoldable pub chargesIn : Terms → Entries → ℕ → ℕ → ℕ
+chargesIn t l m kind =
     sumOf (λ (x : Entry) (before : Entries). isCharge (x .event) && (eqb (x .event .kind) kind && inMonth t m (x .event .day))) amountOf l
 
 -- "((usage cost + kinds 1 and 2) × 100,000 + half the Wh rounded down) / Wh, rounded down, marked missing and 0 where Wh is 0"
@@ -66,11 +66,11 @@ unfoldable pub averageOf : ℕ → ℕ → ℕ
 averageOf cost wh = cond (eqb wh 0) 0 ((cost * 100000 + wh / 2) / wh)
 
 -- "usage cost and Wh take both sorts together"
-abbrev pub averageIn : Terms → ℕ → Entries → ℕ
-averageIn t m l =
+abbrev pub averageIn : Terms → Entries → ℕ → ℕ
+averageIn t l m =
     averageOf
-    (meteredIn t m l .cost + estimatedIn t m l .cost + chargesIn t m 1 l + chargesIn t m 2 l)
-    (meteredIn t m l .wh + estimatedIn t m l .wh)
+    (meteredIn t l m .cost + estimatedIn t l m .cost + chargesIn t l m 1 + chargesIn t l m 2)
+    (meteredIn t l m .wh + estimatedIn t l m .wh)
 
 -- "refused with 3, every figure 0"
 abbrev pub noSummary : ℕ → Summary
@@ -90,12 +90,12 @@ ledgerSummary t l m =
     cond (hasDays t m)
     (record {
       code = 0;
-      kept = countedIn t m (isKept l) l;
-      reversed = countedIn t m (isReversed l) l;
-      metered = meteredIn t m l;
-      estimated = estimatedIn t m l;
-      charges = chargesIn t m 1 l ∷ chargesIn t m 2 l ∷ chargesIn t m 3 l ∷ chargesIn t m 4 l ∷ chargesIn t m 5 l ∷ [];
-      average = averageIn t m l;
-      missing = eqb (meteredIn t m l .wh + estimatedIn t m l .wh) 0;
+      kept = countedIn t l m (isKept l);
+      reversed = countedIn t l m (isReversed l);
+      metered = meteredIn t l m;
+      estimated = estimatedIn t l m;
+      charges = chargesIn t l m 1 ∷ chargesIn t l m 2 ∷ chargesIn t l m 3 ∷ chargesIn t l m 4 ∷ chargesIn t l m 5 ∷ [];
+      average = averageIn t l m;
+      missing = eqb (meteredIn t l m .wh + estimatedIn t l m .wh) 0;
     })
     (noSummary 3)

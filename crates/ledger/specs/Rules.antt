@@ -11,7 +11,7 @@ use Rattle.calendar.specs.Calendar.{finalDay}
 use Rattle.terms.specs.declared.Terms.{Terms}
 use Rattle.ledger.specs.declared.Event.{Event}
 use Rattle.ledger.specs.Event.{isPay, isReverse, isEstimate, isRead, isPlan, isDisconnect, isConnect, inLimits}
-use Rattle.ledger.specs.Entries.{Entries, lastDay, payments, reversed, warned, usageDay, isBlank, isMetered, barred, weatherNear}
+use Rattle.ledger.specs.Entries.{Entries, lastDay, paymentCount, reversed, warned, usageDay, isBlank, isMetered, barred, weatherRecent}
 
 -- "It holds the list L of the events it accepted, each payment with its two parts, and B, R and service."
 pub record Ledger : Type 0 where
@@ -32,10 +32,10 @@ requiredDebt = 5000
 
 -- "Kind 1, required: B ≤ −5,000, and some weather day w ≤ x has at most one business day among days w+1 to x."
 -- "Kind 2, offered: B < 0."
-unfoldable pub planAllowed : Terms → Ledger → Event → Bool
-planAllowed t l e =
+unfoldable pub mayDefer : Terms → Ledger → Event → Bool
+mayDefer t l e =
     cond (eqb (e .kind) 1)
-    (leZ (l .balance) (negℤ (pos requiredDebt)) && weatherNear t (l .list) (e .day))
+    (leZ (l .balance) (negℤ (pos requiredDebt)) && weatherRecent t (l .list) (e .day))
     (ltZ (l .balance) (pos 0))
 
 abbrev pub Rule : Type 0
@@ -54,8 +54,8 @@ abbrev pub MayCut : Terms → Ledger → Event → Type 0
 MayCut t l e =
     (l .on ≡ true)
     × (ltZ (l .balance) (pos (t .cutoff)) ≡ true)
-    × (warned (e .day) (l .list) ≡ true)
-    × (barred t (e .day) (l .list) ≡ false)
+    × (warned (l .list) (e .day) ≡ true)
+    × (barred t (l .list) (e .day) ≡ false)
 
 -- The table, each number with when it applies. "Several apply: the lowest number of 1 to 14": its order is the rule.
 unfoldable pub refusals : Terms → Ledger → Event → List Rule
@@ -63,16 +63,16 @@ refusals t l e =
     (2, dayRefused l e)
     ∷ (3, not (inLimits e))
     ∷ (4, isFull l)
-    ∷ (5, isPay e && leb maxPayments (payments (l .list)))
-    ∷ (6, isReverse e && (leb (payments (l .list)) (e .number) || reversed (e .number) (l .list)))
+    ∷ (5, isPay e && leb maxPayments (paymentCount (l .list)))
+    ∷ (6, isReverse e && (leb (paymentCount (l .list)) (e .number) || reversed (l .list) (e .number)))
     ∷ (7, (isEstimate e || isRead e) && leb (e .day) (e .usage))
     ∷ (8, (isEstimate e && not (isBlank (usageDay t (l .list) (e .usage)))) || (isRead e && isMetered (usageDay t (l .list) (e .usage))))
-    ∷ (9, isPlan e && not (planAllowed t l e))
+    ∷ (9, isPlan e && not (mayDefer t l e))
     ∷ (10, isPlan e && ltb 0 (l .plan))
     ∷ (11, (isDisconnect e && not (l .on)) || (isConnect e && l .on))
     ∷ (12, (isDisconnect e && leZ (pos (t .cutoff)) (l .balance)) || (isConnect e && ltZ (l .balance) (pos (t .connect))))
-    ∷ (13, isDisconnect e && not (warned (e .day) (l .list)))
-    ∷ (14, isDisconnect e && barred t (e .day) (l .list))
+    ∷ (13, isDisconnect e && not (warned (l .list) (e .day)))
+    ∷ (14, isDisconnect e && barred t (l .list) (e .day))
     ∷ []
 
 -- the number of the first rule that applies; 0 where none does

@@ -16,7 +16,7 @@ use Rattle.terms.specs.declared.Terms.{Terms}
 use Rattle.ledger.specs.declared.Event.{Event}
 use Rattle.ledger.specs.declared.Summary.{Summary}
 use Rattle.ledger.specs.Event.{isPay}
-use Rattle.ledger.specs.Entries.{Entry, Entries, amountOf, payments, payment, reversed, UsageDay, blank, estimated, metered, usageDay, estimateCost}
+use Rattle.ledger.specs.Entries.{Entry, Entries, amountOf, paymentCount, payment, reversed, UsageDay, blank, estimated, metered, usageDay, estimateCost}
 use Rattle.ledger.specs.Rules.{Ledger}
 use Rattle.ledger.specs.Ledger.{ledgerOf}
 use Rattle.ledger.specs.Months.{monthOf, inMonth, hasDays, paymentsIn, usageIn, meteredWh, meteredCost, estimatedWh, chargesIn, noSummary, ledgerSummary}
@@ -28,7 +28,7 @@ use Rattle.moves.specs.Moves.{isAccount, earlyCode, cellsBefore, moveOf}
 use Rattle.account.specs.Step.{stepOf}
 use Rattle.account.specs.declared.Account.{Account}
 use Rattle.refinement.specs.Lists.{Made}
-use Rattle.refinement.specs.Agree.{Agree, usageOf, paymentOf}
+use Rattle.refinement.specs.Agree.{Agree, recordedUsage, recordedPayment}
 use Rattle.refinement.proofs.Agreed.{is-account}
 use Rattle.refinement.proofs.Lists.{made-stands}
 use Rattle.months.specs.Summary.{inMonthOf, heldKept, heldReversed, paymentsBy, one, heldAmount, whMetered, costMetered, whEstimated, usageBy, summaryBy, summaryOf, IsSummary}
@@ -61,57 +61,57 @@ module _ (t : Terms) (m : ℕ) (o : opens (t .opened) ≡ true) where
 
   module _ (a : Account) (l : Ledger) (g : Agree t a l) (d : Dated (l .list)) where
     paid : (p : Payment → Bool) (q : ℕ → Bool) (f : Payment → ℕ) (w : Entry → ℕ)
-        → ((n : ℕ) → p (paymentOf n (l .list)) ≡ q n) → ((n : ℕ) → f (paymentOf n (l .list)) ≡ w (payment n (l .list)))
+        → ((n : ℕ) → p (recordedPayment (l .list) n) ≡ q n) → ((n : ℕ) → f (recordedPayment (l .list) n) ≡ w (payment (l .list) n))
         → paymentsBy (inMonthOf (t .opened) m) p f (a .payments) (a .totals .count)
-        ≡ paymentsIn t m (λ (x : Entry) (before : Entries). isPay (x .event) && q (payments before)) w (l .list)
+        ≡ paymentsIn t (l .list) m (λ (x : Entry) (before : Entries). isPay (x .event) && q (paymentCount before)) w
     unfolding paymentsBy paymentsIn
     paid p q f w i h =
         rw (g .sums .count)
-        (total-same _ _ (payments (l .list)) (λ n b. rw (g .kept .payments n b, in-month (payment n (l .list) .event .day) (d n), i n, h n))
+        (total-same _ _ (paymentCount (l .list)) (λ n b. rw (g .kept .payments n b, in-month (payment (l .list) n .event .day) (d n), i n, h n))
         ∙ sym (by-number (λ (x : Entry). inMonth t m (x .event .day)) q w (l .list)))
 
-    used : (f : Usage → ℕ) (w : UsageDay → ℕ) → ((u : UsageDay) → f (usageOf u) ≡ w u)
-        → usageBy (inMonthOf (t .opened) m) f (a .days) 400 ≡ usageIn t m w (l .list)
+    used : (f : Usage → ℕ) (w : UsageDay → ℕ) → ((u : UsageDay) → f (recordedUsage u) ≡ w u)
+        → usageBy (inMonthOf (t .opened) m) f (a .days) 400 ≡ usageIn t (l .list) m w
     unfolding usageBy usageIn
     used f w h = total-same _ _ 400 (λ u b. rw (in-month u (omega arith), g .kept .days u b, h (usageDay t (l .list) u)))
 
-    charge : (k : ℕ) → m ≤ 14 → k < 5 → getD (a .charges) (5 * m + k) 0 ≡ chargesIn t m (suc k) (l .list)
+    charge : (k : ℕ) → m ≤ 14 → k < 5 → getD (a .charges) (5 * m + k) 0 ≡ chargesIn t (l .list) m (suc k)
     charge k h b = g .kept .charges m k (omega arith) b
 
-    first : m ≤ 14 → getD (a .charges) (5 * m) 0 ≡ chargesIn t m 1 (l .list)
+    first : m ≤ 14 → getD (a .charges) (5 * m) 0 ≡ chargesIn t (l .list) m 1
     first h = let e : 5 * m ≡ 5 * m + 0 = omega arith in rw e (charge 0 h (omega arith))
 
     -- no sum is past the guard
-    small : (k : ℕ) → leb (chargesIn t m k (l .list)) 1099511627776 ≡ true
-    small k = le-leb (chargesIn t m k (l .list)) 1099511627776 (omega (arith, g .kept .charged m k, g .bounds .full, g .sums .events))
+    small : (k : ℕ) → leb (chargesIn t (l .list) m k) 1099511627776 ≡ true
+    small k = le-leb (chargesIn t (l .list) m k) 1099511627776 (omega (arith, g .kept .charged m k, g .bounds .full, g .sums .events))
 
     -- by the usage day's state
-    wh-metered : (u : UsageDay) → whMetered (usageOf u) ≡ meteredWh u
+    wh-metered : (u : UsageDay) → whMetered (recordedUsage u) ≡ meteredWh u
     wh-metered blank = refl
     wh-metered (estimated wh cost) = refl
     wh-metered (metered wh cost) = refl
 
-    cost-metered : (u : UsageDay) → costMetered (usageOf u) ≡ meteredCost u
+    cost-metered : (u : UsageDay) → costMetered (recordedUsage u) ≡ meteredCost u
     cost-metered blank = refl
     cost-metered (estimated wh cost) = refl
     cost-metered (metered wh cost) = refl
 
-    wh-estimated : (u : UsageDay) → whEstimated (usageOf u) ≡ estimatedWh u
+    wh-estimated : (u : UsageDay) → whEstimated (recordedUsage u) ≡ estimatedWh u
     wh-estimated blank = refl
     wh-estimated (estimated wh cost) = refl
     wh-estimated (metered wh cost) = refl
 
-    cost-estimated : (u : UsageDay) → costHeld (usageOf u) ≡ estimateCost u
+    cost-estimated : (u : UsageDay) → costHeld (recordedUsage u) ≡ estimateCost u
     cost-estimated blank = refl
     cost-estimated (estimated wh cost) = refl
     cost-estimated (metered wh cost) = refl
 
     -- by the payment's number
     abbrev live : ℕ → Bool
-    live n = not (reversed n (l .list))
+    live n = not (reversed (l .list) n)
 
     abbrev back : ℕ → Bool
-    back n = reversed n (l .list)
+    back n = reversed (l .list) n
 
     pub summary-is : summaryOf a m ≡ ledgerSummary t (l .list) m
     unfolding summaryBy ledgerSummary

@@ -165,22 +165,22 @@ chargeOf t m charges e =
     (debited (tallied (m .totals) (e .day)) (e .amount))
     0)
 
-abbrev pub usageCost : Terms → Event → ℕ
-usageCost t e = costOf (e .wh) (t .price)
+abbrev pub whCost : Terms → Event → ℕ
+whCost t e = costOf (e .wh) (t .price)
 
 unfoldable pub estimatedOf : Terms → Move → Event → Move
 estimatedOf t m e =
     accepting
-    (onDay m (Estimated (e .wh) (usageCost t e)))
-    (withStanding (debited (tallied (m .totals) (e .day)) (usageCost t e)) (m .totals .standing + usageCost t e))
-    (usageCost t e)
+    (onDay m (Estimated (e .wh) (whCost t e)))
+    (withStanding (debited (tallied (m .totals) (e .day)) (whCost t e)) (m .totals .standing + whCost t e))
+    (whCost t e)
 
 unfoldable pub meteredOf : Terms → Move → Event → ℕ → Move
 meteredOf t m e old =
     accepting
-    (onDay m (Metered (e .wh) (usageCost t e)))
-    (withStanding (debited (credited (tallied (m .totals) (e .day)) old) (usageCost t e)) (m .totals .standing - old))
-    (usageCost t e)
+    (onDay m (Metered (e .wh) (whCost t e)))
+    (withStanding (debited (credited (tallied (m .totals) (e .day)) old) (whCost t e)) (m .totals .standing - old))
+    (whCost t e)
 
 -- by the usage day's state
 abbrev pub byUsage : {A : Type 0} → Usage → A → (ℕ → A) → A → A

@@ -19,7 +19,7 @@ use Rattle.account.specs.declared.Account.{Account}
 use Rattle.refinement.specs.Lists.{Made}
 use Rattle.refinement.specs.Agree.{Sums, Bounds, Stands}
 use Rattle.refinement.proofs.Lists.{made-stands}
-use Rattle.readings.specs.Readings.{balanceOf, settledOf, Reading, IsBalance, IsPlan, IsService, IsSettled, IsEstimates}
+use Rattle.readings.specs.Readings.{balanceOf, settledOf, IsReading, IsBalance, IsPlan, IsService, IsSettled, IsEstimates}
 
 module _ (t : Terms) (a : Account) (l : Ledger) (q : Stands t a l) where
   abbrev s : Totals
@@ -40,8 +40,8 @@ module _ (t : Terms) (a : Account) (l : Ledger) (q : Stands t a l) where
   settled-reading =
       simp (le-leb (s .credit) 1152921504606846976 (omega (arith, b .credit, b .full)), le-leb (s .debit) 1152921504606846976 (omega (arith, b .debit, b .full)), le-leb (s .plan) 1152921504606846976 (omega (arith, b .plan, b .full)), le-leb (s .standing) 1152921504606846976 (omega (arith, b .standing, b .full)))
       (sym (sym (settled-is t l (q .invariant))
-      ∙ ap (λ (z : ℤ). z -ℤ pos (l .plan) +ℤ pos (sums.standing t (l .list))) (g .balance)
-      ∙ ap (λ (n : ℕ). diff (s .credit) (s .debit) -ℤ pos n +ℤ pos (sums.standing t (l .list))) (sym (g .plan))
+      ∙ ap (λ (z : ℤ). z -ℤ pos (l .plan) +ℤ pos (sums.standingCost t (l .list))) (g .balance)
+      ∙ ap (λ (n : ℕ). diff (s .credit) (s .debit) -ℤ pos n +ℤ pos (sums.standingCost t (l .list))) (sym (g .plan))
       ∙ ap (λ (n : ℕ). diff (s .credit) (s .debit) -ℤ pos (s .plan) +ℤ pos n) (sym (g .standing))
       ∙ ap (λ (z : ℤ). z +ℤ pos (s .standing)) (diff-sub (s .credit) (s .debit) (s .plan))
       ∙ diff-add (s .credit) (s .debit + s .plan) (s .standing)))
@@ -49,7 +49,7 @@ module _ (t : Terms) (a : Account) (l : Ledger) (q : Stands t a l) where
 -- ---- so for every list that made the account
 
 -- what is read off the totals of every account that stands for a ledger, is promised
-promised : {A : Type 0} (x : Totals → A) (f : Terms → Ledger → A) → ((t : Terms) (a : Account) (l : Ledger) → Stands t a l → x (a .totals) ≡ f t l) → (s : Totals) (r : A) → r ≡ x s → Reading s (x s) f r
+promised : {A : Type 0} (x : Totals → A) (f : Terms → Ledger → A) → ((t : Terms) (a : Account) (l : Ledger) → Stands t a l → x (a .totals) ≡ f t l) → (s : Totals) (r : A) → r ≡ x s → IsReading s (x s) f r
 promised x f g s r e = record { totals = e; ledgers = λ a h t es m. e ∙ ap x (sym h) ∙ g t a (ledgerOf t es) (made-stands t es a m) }
 
 pub is-balance : (s : Totals) (r : ℤ) → r ≡ balanceOf s → IsBalance s r

@@ -25,23 +25,23 @@ settledOf s =
 
 -- A reading call promises x of the totals s, and in the ledger's terms: what f reads off the ledger, for every list of events that made an
 -- account with these totals.
-pub record Reading {A : Type 0} (s : Totals) (x : A) (f : Terms → Ledger → A) (r : A) : Type 0 where
+pub record IsReading {A : Type 0} (s : Totals) (x : A) (f : Terms → Ledger → A) (r : A) : Type 0 where
   pub totals : r ≡ x
   pub ledgers : (a : Account) → a .totals ≡ s → IsLedgers a f r
 
 -- B
 abbrev pub IsBalance : Totals → ℤ → Type 0
-IsBalance s r = Reading s (balanceOf s) (λ (t : Terms) (l : Ledger). l .balance) r
+IsBalance s r = IsReading s (balanceOf s) (λ (t : Terms) (l : Ledger). l .balance) r
 
 -- R
 abbrev pub IsPlan : Totals → ℕ → Type 0
-IsPlan s r = Reading s (s .plan) (λ (t : Terms) (l : Ledger). l .plan) r
+IsPlan s r = IsReading s (s .plan) (λ (t : Terms) (l : Ledger). l .plan) r
 
 abbrev pub IsService : Totals → Bool → Type 0
-IsService s r = Reading s (s .on) (λ (t : Terms) (l : Ledger). l .on) r
+IsService s r = IsReading s (s .on) (λ (t : Terms) (l : Ledger). l .on) r
 
 abbrev pub IsSettled : Totals → ℤ → Type 0
-IsSettled s r = Reading s (settledOf s) (λ (t : Terms) (l : Ledger). sums.settled t (l .list)) r
+IsSettled s r = IsReading s (settledOf s) (λ (t : Terms) (l : Ledger). sums.settled t (l .list)) r
 
 abbrev pub IsEstimates : Totals → ℕ → Type 0
-IsEstimates s r = Reading s (s .standing) (λ (t : Terms) (l : Ledger). sums.standing t (l .list)) r
+IsEstimates s r = IsReading s (s .standing) (λ (t : Terms) (l : Ledger). sums.standingCost t (l .list)) r

@@ -13,9 +13,9 @@ use Rattle.terms.specs.Terms.{termsCode}
 use Rattle.terms.specs.declared.Terms.{Terms}
 use Rattle.ledger.specs.declared.Event.{Event}
 use Rattle.ledger.specs.Event.{isEstimate, isRead, inLimits}
-use Rattle.ledger.specs.Entries.{costIn, lastDay, usageDay, estimateCost}
+use Rattle.ledger.specs.Entries.{usageCost, lastDay, usageDay, estimateCost}
 use Rattle.ledger.specs.Rules.{Ledger}
-use Rattle.ledger.specs.Sums.{standing}
+use Rattle.ledger.specs.Sums.{standingCost}
 use Rattle.ledger.specs.Ledger.{refusal, ledgerStep}
 use Rattle.ledger.proofs.Accepted.{Accepted, accepted-by}
 use Rattle.ledger.specs.Invariant.{Invariant}
@@ -74,6 +74,6 @@ module _ (a : Account) (l : Ledger) (g : Agree (a .terms) a l) where
         taken = accepted-by t l e (eq-eqb (refusal t l e) 0 z)
 
         -- the standing estimates after the event
-        pub standing-is : (p : ℕ) → standing t (record { event = e; part = p } ∷ l .list) + cond (isRead e) (estimateCost (usageDay t (l .list) (e .usage))) 0
-            ≡ standing t (l .list) + cond (isEstimate e) (costIn t (l .list) e) 0
+        pub standing-is : (p : ℕ) → standingCost t (record { event = e; part = p } ∷ l .list) + cond (isRead e) (estimateCost (usageDay t (l .list) (e .usage))) 0
+            ≡ standingCost t (l .list) + cond (isEstimate e) (usageCost t (l .list) e) 0
         standing-is p = standing-then t l e p s taken

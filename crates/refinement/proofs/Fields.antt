@@ -14,55 +14,55 @@ use Rattle.tariff.specs.Tariff.{costOf}
 use Rattle.terms.specs.declared.Terms.{Terms}
 use Rattle.ledger.specs.declared.Event.{Event}
 use Rattle.ledger.specs.Event.{isPay, isReverse, isCharge, isEstimate, isRead, isWarn, isMark}
-use Rattle.ledger.specs.Entries.{Entry, Entries, any, count, sum, find, noEntry, payments, payment, hasNumber, reversed, UsageDay, blank, estimated, metered, usageDay, readOn, estimateOn, whOn, priceOn, covered}
+use Rattle.ledger.specs.Entries.{Entry, Entries, any, count, sum, find, noEntry, paymentCount, payment, hasNumber, reversed, UsageDay, blank, estimated, metered, usageDay, readOn, estimateOn, whOn, priceOn, covered}
 use Rattle.ledger.specs.Months.{chargesIn, monthOf}
 use Rattle.ledger.proofs.Cases.{decide, both}
 use Rattle.account.specs.Record.{blankDay, noPayment, costHeld}
-use Rattle.refinement.specs.Agree.{usageOf, paymentOf, marksOf, warnedOn}
+use Rattle.refinement.specs.Agree.{recordedUsage, recordedPayment, recordedMarks, warnedOn}
 
 module _ (e : Event) (p : ℕ) (l : Entries) where
   abbrev pub more : Entries
   more = record { event = e; part = p } ∷ l
 
-  pub payments-same : isPay e ≡ false → payments more ≡ payments l
-  unfolding payments count
+  pub payments-same : isPay e ≡ false → paymentCount more ≡ paymentCount l
+  unfolding paymentCount count
   payments-same f = simp f (omega arith)
 
-  pub payments-one : isPay e ≡ true → payments more ≡ payments l + 1
-  unfolding payments count
+  pub payments-one : isPay e ≡ true → paymentCount more ≡ paymentCount l + 1
+  unfolding paymentCount count
   payments-one f = simp f (omega arith)
 
-  pub payment-same : (n : ℕ) → isPay e ≡ false → payment n more ≡ payment n l
+  pub payment-same : (n : ℕ) → isPay e ≡ false → payment more n ≡ payment l n
   unfolding payment find
   payment-same n f = simp f
 
-  pub payment-old : (n : ℕ) → (payments l ≡ n → ⊥) → payment n more ≡ payment n l
+  pub payment-old : (n : ℕ) → (paymentCount l ≡ n → ⊥) → payment more n ≡ payment l n
   unfolding payment find
-  payment-old n h = decide (isPay e) (λ t. simp (t, ne-eqb (payments l) n h)) (λ f. simp f)
+  payment-old n h = decide (isPay e) (λ t. simp (t, ne-eqb (paymentCount l) n h)) (λ f. simp f)
 
-  pub payment-new : isPay e ≡ true → payment (payments l) more ≡ record { event = e; part = p }
+  pub payment-new : isPay e ≡ true → payment more (paymentCount l) ≡ record { event = e; part = p }
   unfolding payment find
-  payment-new t = simp (t, eq-eqb (payments l) (payments l) refl)
+  payment-new t = simp (t, eq-eqb (paymentCount l) (paymentCount l) refl)
 
-  pub amount-limit : (n k : ℕ) → (isPay e ≡ true → e .amount ≤ k) → payment n l .event .amount ≤ k → payment n more .event .amount ≤ k
+  pub amount-limit : (n k : ℕ) → (isPay e ≡ true → e .amount ≤ k) → payment l n .event .amount ≤ k → payment more n .event .amount ≤ k
   unfolding payment find
   amount-limit n k h g = decide (hasNumber n (record { event = e; part = p }) l)
-      (λ t. simp t (h (both (isPay e) (eqb (payments l) n) t .0)))
+      (λ t. simp t (h (both (isPay e) (eqb (paymentCount l) n) t .0)))
       (λ f. simp f g)
 
-  pub reversed-same : (n : ℕ) → (isReverse e && eqb (e .number) n) ≡ false → reversed n more ≡ reversed n l
+  pub reversed-same : (n : ℕ) → (isReverse e && eqb (e .number) n) ≡ false → reversed more n ≡ reversed l n
   unfolding reversed any
   reversed-same n f = simp f
 
-  pub reversed-new : isReverse e ≡ true → reversed (e .number) more ≡ true
+  pub reversed-new : isReverse e ≡ true → reversed more (e .number) ≡ true
   unfolding reversed any
   reversed-new t = simp (t, eq-eqb (e .number) (e .number) refl)
 
-  wh-same : (q : ℕ → Event → Bool) (u : ℕ) → q u e ≡ false → whOn q u more ≡ whOn q u l
+  wh-same : (q : ℕ → Event → Bool) (u : ℕ) → q u e ≡ false → whOn more q u ≡ whOn l q u
   unfolding find
   wh-same q u f = ap (λ (b : Bool). cond b (record { event = e; part = p }) (find (λ (y : Entry) (before : Entries). q u (y .event)) l) .event .wh) f
 
-  wh-new : (q : ℕ → Event → Bool) (u : ℕ) → q u e ≡ true → whOn q u more ≡ e .wh
+  wh-new : (q : ℕ → Event → Bool) (u : ℕ) → q u e ≡ true → whOn more q u ≡ e .wh
   unfolding find
   wh-new q u t = ap (λ (b : Bool). cond b (record { event = e; part = p }) (find (λ (y : Entry) (before : Entries). q u (y .event)) l) .event .wh) t
 
@@ -84,27 +84,27 @@ module _ (e : Event) (p : ℕ) (l : Entries) where
       simp (wh-new readOn (e .usage) (simp (r, s)), r, s)
 
   pub usage-read-before : (t : Terms) → isRead e ≡ false → any (readOn (e .usage)) l ≡ true
-      → usageDay t more (e .usage) ≡ metered (whOn readOn (e .usage) l) (costOf (whOn readOn (e .usage) l) (t .price))
+      → usageDay t more (e .usage) ≡ metered (whOn l readOn (e .usage)) (costOf (whOn l readOn (e .usage)) (t .price))
   unfolding usageDay any priceOn
   usage-read-before t r m = simp (wh-same readOn (e .usage) (rw r), r, m)
 
-  pub covered-same : (k d : ℕ) → isMark e ≡ false → covered k d more ≡ covered k d l
+  pub covered-same : (k d : ℕ) → isMark e ≡ false → covered more k d ≡ covered l k d
   unfolding covered any
   covered-same k d f = simp f
 
-  pub covered-more : (k d : ℕ) → isMark e ≡ true → covered k d more ≡ ((eqb (e .kind) k && (leb (e .from) d && leb d (e .to))) || covered k d l)
+  pub covered-more : (k d : ℕ) → isMark e ≡ true → covered more k d ≡ ((eqb (e .kind) k && (leb (e .from) d && leb d (e .to))) || covered l k d)
   unfolding covered any
   covered-more k d t = simp t
 
-  pub warned-same : (d : ℕ) → (isWarn e && eqb (e .day) d) ≡ false → warnedOn d more ≡ warnedOn d l
+  pub warned-same : (d : ℕ) → (isWarn e && eqb (e .day) d) ≡ false → warnedOn more d ≡ warnedOn l d
   unfolding warnedOn any
   warned-same d f = simp f
 
-  pub warned-new : isWarn e ≡ true → warnedOn (e .day) more ≡ true
+  pub warned-new : isWarn e ≡ true → warnedOn more (e .day) ≡ true
   unfolding warnedOn any
   warned-new t = simp (t, eq-eqb (e .day) (e .day) refl)
 
-  pub charges-more : (t : Terms) (m k : ℕ) → chargesIn t m k more
-      ≡ chargesIn t m k l + cond (isCharge e && (eqb (e .kind) k && eqb (monthOf t (e .day)) m)) (e .amount) 0
+  pub charges-more : (t : Terms) (m k : ℕ) → chargesIn t more m k
+      ≡ chargesIn t l m k + cond (isCharge e && (eqb (e .kind) k && eqb (monthOf t (e .day)) m)) (e .amount) 0
   unfolding chargesIn sum
   charges-more t m k = refl

@@ -14,10 +14,10 @@ use Rattle.calendar.specs.Calendar.{isDay, monthOn}
 use Rattle.calendar.proofs.Laws.{month-limit}
 use Rattle.terms.specs.declared.Terms.{Terms}
 use Rattle.ledger.specs.declared.Event.{Event}
-use Rattle.ledger.specs.Entries.{payments, payment, reversed}
+use Rattle.ledger.specs.Entries.{paymentCount, payment, reversed}
 use Rattle.ledger.specs.Rules.{Ledger}
 use Rattle.ledger.specs.Months.{monthOf}
-use Rattle.ledger.specs.Ledger.{planPart, payMove, reverseMove, balanceMove, refusal}
+use Rattle.ledger.specs.Ledger.{planPart, payEffect, reverseEffect, balanceEffect, refusal}
 use Rattle.ledger.specs.Invariant.{Invariant}
 use Rattle.ledger.proofs.Cases.{decide}
 use Rattle.ledger.proofs.Money.{diff}
@@ -29,7 +29,7 @@ use Rattle.moves.proofs.Early.{amount-limits, charge-limits}
 use Rattle.account.specs.Record.{noPayment}
 use Rattle.account.specs.Step.{numberAt, cellsOf}
 use Rattle.account.specs.declared.Account.{Account}
-use Rattle.refinement.specs.Agree.{Agree, paymentOf}
+use Rattle.refinement.specs.Agree.{Agree, recordedPayment}
 use Rattle.refinement.proofs.Refusals.{Passes, pay-code, reverse-code, credit-code, charge-code, pay-move, reverse-move, credit-move, charge-move}
 use Rattle.refinement.proofs.Keeps.{charges-set, payments-set, payments-reverse}
 use Rattle.refinement.proofs.Agreed.{Refines, refused-same, raised, lowered, facts}
@@ -46,17 +46,17 @@ module _ (a : Account) (l : Ledger) (e : Event) (g : Agree (a .terms) a l) (s : 
   unfolding planPart
   part-is = rw (g .sums .plan) refl
 
-  unreversed : reversed (payments (l .list)) (l .list) ≡ false
-  unreversed = decide (reversed (payments (l .list)) (l .list)) (λ r. absurd (omega (arith, s .numbers _ r))) (λ f. f)
+  unreversed : reversed (l .list) (paymentCount (l .list)) ≡ false
+  unreversed = decide (reversed (l .list) (paymentCount (l .list))) (λ r. absurd (omega (arith, s .numbers _ r))) (λ f. f)
 
   pub pays : e .sort ≡ 1 → Refines a l e (payOf t c e)
-  unfolding payOf payMove cellsBefore
+  unfolding payOf payEffect cellsBefore
   pays k = branch (Refines a l e) (leb 128 (a .totals .count))
       (λ y. refused-same a l g e 5 (pay-code t l e h k ∙ simp (rw (g .sums .count) at y)) refl)
-      (λ f. let f′ : leb 128 (payments (l .list)) ≡ false = rw (g .sums .count) at f in
+      (λ f. let f′ : leb 128 (paymentCount (l .list)) ≡ false = rw (g .sums .count) at f in
       let p : ℕ = planPart t l (e .amount) in
-      accepted a l e g s h (pay-code t l e h k ∙ simp f′) 1 k _ refl (payMove t l e)
-      (rw (part-is, g .sums .count) (payments-set t a e p (l .list) (g .kept) (rw k refl) (rw k refl) (g .sizes .payments) (leb-false 128 (payments (l .list)) f′) unreversed))
+      accepted a l e g s h (pay-code t l e h k ∙ simp f′) 1 k _ refl (payEffect t l e)
+      (rw (part-is, g .sums .count) (payments-set t a e p (l .list) (g .kept) (rw k refl) (rw k refl) (g .sizes .payments) (leb-false 128 (paymentCount (l .list)) f′) unreversed))
       (pay-move t l e k) refl (g .sums .count)
       (record {
         balance = raised a l g (e .amount - p) ∙ ap (λ (q : ℕ). diff (a .totals .credit + (e .amount - q)) (a .totals .debit)) (sym part-is);
@@ -69,23 +69,23 @@ module _ (a : Account) (l : Ledger) (e : Event) (g : Agree (a .terms) a l) (s : 
 
   -- the payment that is reversed, as both have it
   module _ (f : leb (a .totals .count) (e .number) ≡ false) where
-    there : e .number < payments (l .list)
+    there : e .number < paymentCount (l .list)
     there = omega (arith, leb-false (a .totals .count) (e .number) f, g .sums .count)
 
     number-is : numberAt e ≡ e .number
     number-is = mod-eq-of-lt (omega (arith, there, g .sums .count, g .bounds .count))
 
-    payment-is : c .payment ≡ paymentOf (e .number) (l .list)
+    payment-is : c .payment ≡ recordedPayment (l .list) (e .number)
     unfolding cellsBefore
     payment-is = ap (λ (i : ℕ). getD (a .payments) i noPayment) number-is ∙ g .kept .payments (e .number) there
 
     reversing : e .sort ≡ 2 → Refines a l e (reverseOf t c e)
-    unfolding reverseOf reverseMove cellsBefore
+    unfolding reverseOf reverseEffect cellsBefore
     reversing k = branch (Refines a l e) (leb (a .totals .count) (e .number)) (λ y. absurd (true≢false (sym y ∙ f)))
         (λ _. branch (Refines a l e) (c .payment .reversed)
         (λ r. refused-same a l g e 6 (reverse-code t l e h k ∙ simp (rw (g .sums .count) at f, sym (ap (λ (x : Payment). x .reversed) payment-is) ∙ r)) refl)
-        (λ r. let old = payment (e .number) (l .list) in
-        accepted a l e g s h (reverse-code t l e h k ∙ simp (rw (g .sums .count) at f, sym (ap (λ (x : Payment). x .reversed) payment-is) ∙ r)) 2 k _ refl (reverseMove l e)
+        (λ r. let old = payment (l .list) (e .number) in
+        accepted a l e g s h (reverse-code t l e h k ∙ simp (rw (g .sums .count) at f, sym (ap (λ (x : Payment). x .reversed) payment-is) ∙ r)) 2 k _ refl (reverseEffect l e)
         (rw (number-is, g .kept .payments (e .number) there) (payments-reverse t a e 0 (l .list) (g .kept) (rw k refl) (rw k refl) (g .sizes .payments) (omega (arith, g .bounds .count, g .sums .count)) there))
         (reverse-move t l e k) refl refl
         (record {
@@ -107,7 +107,7 @@ module _ (a : Account) (l : Ledger) (e : Event) (g : Agree (a .terms) a l) (s : 
 
   pub credits : e .sort ≡ 3 → Refines a l e (creditOf t c e)
   unfolding creditOf cellsBefore
-  credits k = accepted a l e g s h (credit-code t l e h k) 3 k _ refl (balanceMove l 0 (l .balance +ℤ pos (e .amount))) tt (credit-move t l e k) refl refl
+  credits k = accepted a l e g s h (credit-code t l e h k) 3 k _ refl (balanceEffect l 0 (l .balance +ℤ pos (e .amount))) tt (credit-move t l e k) refl refl
       (record {
         balance = raised a l g (e .amount);
         plan = g .sums .plan;
@@ -136,7 +136,7 @@ module _ (a : Account) (l : Ledger) (e : Event) (g : Agree (a .terms) a l) (s : 
   unfolding chargeOf cellsBefore
   charged k = branch (Refines a l e) (ltb maxTotal (getD (a .charges) (chargePlace t e) 0)) (λ y. absurd (true≢false (sym y ∙ small k)))
       (λ _. let limit = charge-limits e k (h .limits) in
-      accepted a l e g s h (charge-code t l e h k) 4 k _ refl (balanceMove l 0 (l .balance -ℤ pos (e .amount)))
+      accepted a l e g s h (charge-code t l e h k) 4 k _ refl (balanceEffect l 0 (l .balance -ℤ pos (e .amount)))
       (charges-set t a e 0 (l .list) (g .kept) (rw k refl) (g .sizes .charges) month-is (month-limit (t .opened) (e .day) a-day) (limit .kind .least) (limit .kind .most))
       (charge-move t l e k) refl refl
       (record {

@@ -10,10 +10,10 @@ use Rattle.terms.specs.Terms.{validTerms}
 use Rattle.terms.specs.declared.Terms.{Terms}
 use Rattle.ledger.specs.declared.Event.{Event}
 use Rattle.ledger.specs.Event.{inLimits}
-use Rattle.ledger.specs.Entries.{any, find, lastDay, payments, count, payment, reversed, usageDay, covered}
+use Rattle.ledger.specs.Entries.{any, find, lastDay, paymentCount, count, payment, reversed, usageDay, covered}
 use Rattle.ledger.specs.Entries as entries
 use Rattle.ledger.specs.Rules.{Ledger}
-use Rattle.ledger.specs.Sums.{standing}
+use Rattle.ledger.specs.Sums.{standingCost}
 use Rattle.ledger.specs.Months.{chargesIn}
 use Rattle.ledger.specs.Ledger.{opening, refusal, ledgerStep}
 use Rattle.ledger.specs.Invariant.{Invariant}
@@ -82,7 +82,7 @@ refines t a l e s g =
 
 -- a fresh account agrees with the opening ledger
 pub agree-fresh : (t : Terms) → validTerms t ≡ true → Agree t (fresh t) opening
-unfolding fresh any find lastDay payments count payment reversed usageDay covered warnedOn standing chargesIn entries.sum
+unfolding fresh any find lastDay paymentCount count payment reversed usageDay covered warnedOn standingCost chargesIn entries.sum
 agree-fresh t v = record {
   terms = refl;
   valid = v;

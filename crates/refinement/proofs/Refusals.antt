@@ -11,9 +11,9 @@ use lib.Signed.{ltZ, leZ}
 use Rattle.terms.specs.declared.Terms.{Terms}
 use Rattle.ledger.specs.declared.Event.{Event}
 use Rattle.ledger.specs.Event.{inLimits}
-use Rattle.ledger.specs.Entries.{lastDay, payments, reversed, warned, usageDay, isBlank, isMetered, barred}
-use Rattle.ledger.specs.Rules.{Ledger, planAllowed, dayRefused, isFull, refusals, firstOf}
-use Rattle.ledger.specs.Ledger.{Move, Outcome, payMove, reverseMove, balanceMove, serviceMove, estimateMove, readMove, planMove, moveOf, moved, answer, refusal, ledgerStep}
+use Rattle.ledger.specs.Entries.{lastDay, paymentCount, reversed, warned, usageDay, isBlank, isMetered, barred}
+use Rattle.ledger.specs.Rules.{Ledger, mayDefer, dayRefused, isFull, refusals, firstOf}
+use Rattle.ledger.specs.Ledger.{Effect, Outcome, payEffect, reverseEffect, balanceEffect, serviceEffect, estimateEffect, readEffect, planEffect, effectOf, joined, answer, refusal, ledgerStep}
 
 -- the event passes codes 2, 3 and 4
 pub record Passes (l : Ledger) (e : Event) : Type 0 where
@@ -35,11 +35,11 @@ module _ (t : Terms) (l : Ledger) (e : Event) where
   code-4 h k f = simp (h, k, f)
 
   module _ (s : Passes l e) where
-    pub pay-code : e .sort ≡ 1 → refusal t l e ≡ cond (leb 128 (payments (l .list))) 5 0
+    pub pay-code : e .sort ≡ 1 → refusal t l e ≡ cond (leb 128 (paymentCount (l .list))) 5 0
     unfolding refusal refusals firstOf
     pay-code k = simp (s .days, s .limits, s .room, k)
 
-    pub reverse-code : e .sort ≡ 2 → refusal t l e ≡ cond (leb (payments (l .list)) (e .number) || reversed (e .number) (l .list)) 6 0
+    pub reverse-code : e .sort ≡ 2 → refusal t l e ≡ cond (leb (paymentCount (l .list)) (e .number) || reversed (l .list) (e .number)) 6 0
     unfolding refusal refusals firstOf
     reverse-code k = simp (s .days, s .limits, s .room, k)
 
@@ -67,12 +67,12 @@ module _ (t : Terms) (l : Ledger) (e : Event) where
     unfolding refusal refusals firstOf
     mark-code k = simp (s .days, s .limits, s .room, k)
 
-    pub plan-code : e .sort ≡ 9 → refusal t l e ≡ cond (not (planAllowed t l e)) 9 (cond (ltb 0 (l .plan)) 10 0)
+    pub plan-code : e .sort ≡ 9 → refusal t l e ≡ cond (not (mayDefer t l e)) 9 (cond (ltb 0 (l .plan)) 10 0)
     unfolding refusal refusals firstOf
     plan-code k = simp (s .days, s .limits, s .room, k)
 
     pub disconnect-code : e .sort ≡ 10
-        → refusal t l e ≡ cond (not (l .on)) 11 (cond (leZ (pos (t .cutoff)) (l .balance)) 12 (cond (not (warned (e .day) (l .list))) 13 (cond (barred t (e .day) (l .list)) 14 0)))
+        → refusal t l e ≡ cond (not (l .on)) 11 (cond (leZ (pos (t .cutoff)) (l .balance)) 12 (cond (not (warned (l .list) (e .day))) 13 (cond (barred t (l .list) (e .day)) 14 0)))
     unfolding refusal refusals firstOf
     disconnect-code k = simp (s .days, s .limits, s .room, k, or-false)
 
@@ -85,50 +85,50 @@ module _ (t : Terms) (l : Ledger) (e : Event) where
   unfolding ledgerStep
   refuses c h f = simp (h, f)
 
-  pub takes : (m : Move) → refusal t l e ≡ 0 → moveOf t l e ≡ m → ledgerStep t l e ≡ record { ledger = moved l e m; answer = answer 0 (m .value) }
+  pub takes : (m : Effect) → refusal t l e ≡ 0 → effectOf t l e ≡ m → ledgerStep t l e ≡ record { ledger = joined l e m; answer = answer 0 (m .value) }
   unfolding ledgerStep
   takes m h k = simp (h, k)
 
-  pub pay-move : e .sort ≡ 1 → moveOf t l e ≡ payMove t l e
-  unfolding moveOf
+  pub pay-move : e .sort ≡ 1 → effectOf t l e ≡ payEffect t l e
+  unfolding effectOf
   pay-move k = rw k
 
-  pub reverse-move : e .sort ≡ 2 → moveOf t l e ≡ reverseMove l e
-  unfolding moveOf
+  pub reverse-move : e .sort ≡ 2 → effectOf t l e ≡ reverseEffect l e
+  unfolding effectOf
   reverse-move k = rw k
 
-  pub credit-move : e .sort ≡ 3 → moveOf t l e ≡ balanceMove l 0 (l .balance +ℤ pos (e .amount))
-  unfolding moveOf
+  pub credit-move : e .sort ≡ 3 → effectOf t l e ≡ balanceEffect l 0 (l .balance +ℤ pos (e .amount))
+  unfolding effectOf
   credit-move k = rw k
 
-  pub charge-move : e .sort ≡ 4 → moveOf t l e ≡ balanceMove l 0 (l .balance -ℤ pos (e .amount))
-  unfolding moveOf
+  pub charge-move : e .sort ≡ 4 → effectOf t l e ≡ balanceEffect l 0 (l .balance -ℤ pos (e .amount))
+  unfolding effectOf
   charge-move k = rw k
 
-  pub estimate-move : e .sort ≡ 5 → moveOf t l e ≡ estimateMove t l e
-  unfolding moveOf
+  pub estimate-move : e .sort ≡ 5 → effectOf t l e ≡ estimateEffect t l e
+  unfolding effectOf
   estimate-move k = rw k
 
-  pub read-move : e .sort ≡ 6 → moveOf t l e ≡ readMove t l e
-  unfolding moveOf
+  pub read-move : e .sort ≡ 6 → effectOf t l e ≡ readEffect t l e
+  unfolding effectOf
   read-move k = rw k
 
-  pub warn-move : e .sort ≡ 7 → moveOf t l e ≡ serviceMove l (l .on)
-  unfolding moveOf
+  pub warn-move : e .sort ≡ 7 → effectOf t l e ≡ serviceEffect l (l .on)
+  unfolding effectOf
   warn-move k = rw k
 
-  pub mark-move : e .sort ≡ 8 → moveOf t l e ≡ serviceMove l (l .on)
-  unfolding moveOf
+  pub mark-move : e .sort ≡ 8 → effectOf t l e ≡ serviceEffect l (l .on)
+  unfolding effectOf
   mark-move k = rw k
 
-  pub plan-move : e .sort ≡ 9 → moveOf t l e ≡ planMove t l
-  unfolding moveOf
+  pub plan-move : e .sort ≡ 9 → effectOf t l e ≡ planEffect t l
+  unfolding effectOf
   plan-move k = rw k
 
-  pub disconnect-move : e .sort ≡ 10 → moveOf t l e ≡ serviceMove l false
-  unfolding moveOf
+  pub disconnect-move : e .sort ≡ 10 → effectOf t l e ≡ serviceEffect l false
+  unfolding effectOf
   disconnect-move k = rw k
 
-  pub connect-move : e .sort ≡ 11 → moveOf t l e ≡ serviceMove l true
-  unfolding moveOf
+  pub connect-move : e .sort ≡ 11 → effectOf t l e ≡ serviceEffect l true
+  unfolding effectOf
   connect-move k = rw k

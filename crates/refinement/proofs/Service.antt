@@ -19,9 +19,9 @@ use Rattle.marks.specs.Marks as marks
 use Rattle.marks.proofs.Laws.{latest-some, latest-none, near-is, byte-weather, byte-barring}
 use Rattle.ledger.specs.declared.Event.{Event}
 use Rattle.ledger.specs.Event.{isWarn}
-use Rattle.ledger.specs.Entries.{Entries, any, warned, weather, weekday, covered, barred, business, weatherNear}
-use Rattle.ledger.specs.Rules.{Ledger, planAllowed}
-use Rattle.ledger.specs.Ledger.{serviceMove, planMove, deferred, moveOf, refusal}
+use Rattle.ledger.specs.Entries.{Entries, any, warned, weather, weekday, covered, barred, business, weatherRecent}
+use Rattle.ledger.specs.Rules.{Ledger, mayDefer}
+use Rattle.ledger.specs.Ledger.{serviceEffect, planEffect, deferred, effectOf, refusal}
 use Rattle.ledger.specs.Invariant.{Invariant}
 use Rattle.ledger.proofs.Cases.{decide, both}
 use Rattle.ledger.proofs.Money.{diff, diff-eq, diff-zero, diff-lt, diff-ge, diff-low, diff-gap}
@@ -42,7 +42,7 @@ one-true : (b : Bool) → _≡_ {A = ℕ} (cond b 1 0) 1 → b ≡ true
 one-true true e = refl
 one-true false e = absurd (omega arith)
 
-warned-by : (x w : ℕ) (l : Entries) → warnedOn w l ≡ true → w < x → x ≤ w + 7 → warned x l ≡ true
+warned-by : (x w : ℕ) (l : Entries) → warnedOn l w ≡ true → w < x → x ≤ w + 7 → warned l x ≡ true
 unfolding warnedOn warned any
 warned-by x w [] y lo hi = y
 warned-by x w (n ∷ l) y lo hi = decide (isWarn (n .event) && eqb (n .event .day) w)
@@ -54,11 +54,11 @@ warned-by x w (n ∷ l) y lo hi = decide (isWarn (n .event) && eqb (n .event .da
 -- the day of such a warning
 pub record Day (x : ℕ) (l : Entries) : Type 0 where
   pub day : ℕ
-  pub on : warnedOn day l ≡ true
+  pub on : warnedOn l day ≡ true
   pub before : day < x
   pub after : x ≤ day + 7
 
-warned-day : (x : ℕ) (l : Entries) → warned x l ≡ true → Day x l
+warned-day : (x : ℕ) (l : Entries) → warned l x ≡ true → Day x l
 unfolding warnedOn warned any
 warned-day x [] y = absurd (true≢false (sym y))
 warned-day x (n ∷ l) y = decide (isWarn (n .event) && (leb (n .event .day + 1) x && leb x (n .event .day + 7)))
@@ -83,20 +83,20 @@ module _ (a : Account) (l : Ledger) (e : Event) (g : Agree (a .terms) a l) (s : 
   day = facts a l g e h .day
 
   -- the search finds a warning exactly where the ledger has one
-  warning-is : isMissing (latestWarning (a .warned) (e .day)) ≡ not (warned (e .day) (l .list))
-  warning-is = decide (warned (e .day) (l .list))
+  warning-is : isMissing (latestWarning (a .warned) (e .day)) ≡ not (warned (l .list) (e .day))
+  warning-is = decide (warned (l .list) (e .day))
       (λ y. let d = warned-day (e .day) (l .list) y in
       rw y (latest-some (a .warned) (e .day) (d .day) day (g .kept .warned (d .day) (omega (arith, d .before, day)) ∙ simp (d .on)) (d .before) (d .after)))
       (λ f. rw f (latest-none (a .warned) (e .day) day
-      (λ w lo hi y. true≢false (sym (warned-by (e .day) w (l .list) (one-true (warnedOn w (l .list)) (sym (g .kept .warned w (omega (arith, lo, day))) ∙ y)) lo hi) ∙ f))))
+      (λ w lo hi y. true≢false (sym (warned-by (e .day) w (l .list) (one-true (warnedOn (l .list) w) (sym (g .kept .warned w (omega (arith, lo, day))) ∙ y)) lo hi) ∙ f))))
 
   -- the event's day has a weekday
   weekday-is : weekdayOn (t .opened) (e .day) ≡ weekday t (e .day)
   weekday-is = simp (facts a l g e h .opened, le-leb (e .day) 399 day)
 
-  barred-is : barredOn t (a .marks) e ≡ barred t (e .day) (l .list)
+  barred-is : barredOn t (a .marks) e ≡ barred t (l .list) (e .day)
   unfolding barred barringOn
-  barred-is = rw weekday-is (simp (le-leb (e .day) 399 day, g .kept .marks (e .day) (omega (arith, day)), byte-barring (covered 1 (e .day) (l .list)) (covered 2 (e .day) (l .list)) (covered 3 (e .day) (l .list))))
+  barred-is = rw weekday-is (simp (le-leb (e .day) 399 day, g .kept .marks (e .day) (omega (arith, day)), byte-barring (covered (l .list) 1 (e .day)) (covered (l .list) 2 (e .day)) (covered (l .list) 3 (e .day))))
 
   -- the weekday before
   weekday-back : (d : ℕ) → dayBefore (weekday t (suc d)) ≡ weekday t d
@@ -104,22 +104,22 @@ module _ (a : Account) (l : Ledger) (e : Event) (g : Agree (a .terms) a l) (s : 
       (λ y. simp y (sym (eqb-true (weekday t d) 6 y)))
       (λ f. simp (f, ne-eqb (weekday t d + 1) 0 (λ z. omega arith)) (omega arith)))
 
-  near-same : marks.weatherNear (a .marks) (weekdayOn (t .opened) (e .day)) (e .day) ≡ weatherNear t (l .list) (e .day)
-  unfolding weatherNear business
+  near-same : marks.weatherNear (a .marks) (weekdayOn (t .opened) (e .day)) (e .day) ≡ weatherRecent t (l .list) (e .day)
+  unfolding weatherRecent business
   near-same = rw weekday-is (near-is (a .marks) (weather (l .list)) (business t (l .list)) (weekday t)
-      (λ d k. rw (g .kept .marks d k) (byte-weather (covered 1 d (l .list)) (covered 2 d (l .list)) (covered 3 d (l .list))))
+      (λ d k. rw (g .kept .marks d k) (byte-weather (covered (l .list) 1 d) (covered (l .list) 2 d) (covered (l .list) 3 d)))
       (λ d. refl) weekday-back (e .day) day)
 
-  plan-is : planConditionMet t (a .totals) (a .marks) e ≡ planAllowed t l e
-  unfolding planAllowed
+  plan-is : planConditionMet t (a .totals) (a .marks) e ≡ mayDefer t l e
+  unfolding mayDefer
   plan-is = ap (λ (z : Bool). cond (eqb (e .kind) 1) (leb (a .totals .credit + 5000) (a .totals .debit) && z) (ltb (a .totals .credit) (a .totals .debit))) near-same
-      ∙ sym (ap (λ (b : ℤ). cond (eqb (e .kind) 1) (leZ b (negℤ (pos 5000)) && weatherNear t (l .list) (e .day)) (ltZ b (pos 0))) (g .sums .balance)
-      ∙ ap (λ (z : Bool). cond (eqb (e .kind) 1) (z && weatherNear t (l .list) (e .day)) (ltZ (diff (a .totals .credit) (a .totals .debit)) (pos 0))) (diff-low (a .totals .credit) (a .totals .debit) 4999)
-      ∙ ap (λ (z : Bool). cond (eqb (e .kind) 1) (leb (a .totals .credit + 5000) (a .totals .debit) && weatherNear t (l .list) (e .day)) z)
+      ∙ sym (ap (λ (b : ℤ). cond (eqb (e .kind) 1) (leZ b (negℤ (pos 5000)) && weatherRecent t (l .list) (e .day)) (ltZ b (pos 0))) (g .sums .balance)
+      ∙ ap (λ (z : Bool). cond (eqb (e .kind) 1) (z && weatherRecent t (l .list) (e .day)) (ltZ (diff (a .totals .credit) (a .totals .debit)) (pos 0))) (diff-low (a .totals .credit) (a .totals .debit) 4999)
+      ∙ ap (λ (z : Bool). cond (eqb (e .kind) 1) (leb (a .totals .credit + 5000) (a .totals .debit) && weatherRecent t (l .list) (e .day)) z)
       (diff-lt (a .totals .credit) (a .totals .debit) 0 ∙ ap (λ (n : ℕ). ltb (a .totals .credit) n) (add-zero (a .totals .debit))))
 
   -- B and R as they were
-  still : (b d : Bool) → b ≡ d → Money a (withService (tallied (a .totals) (e .day)) b) (serviceMove l d)
+  still : (b d : Bool) → b ≡ d → Money a (withService (tallied (a .totals) (e .day)) b) (serviceEffect l d)
   still b d q = record {
     balance = g .sums .balance;
     plan = g .sums .plan;
@@ -129,20 +129,20 @@ module _ (a : Account) (l : Ledger) (e : Event) (g : Agree (a .terms) a l) (s : 
     plan-most = omega (arith, g .bounds .plan);
   }
 
-  unserved : Money a (tallied (a .totals) (e .day)) (serviceMove l (l .on))
+  unserved : Money a (tallied (a .totals) (e .day)) (serviceEffect l (l .on))
   unserved = still (a .totals .on) (l .on) (g .sums .on)
 
   pub warns : e .sort ≡ 7 → Refines a l e (warnOf t c e)
   unfolding warnOf cellsBefore
   warns k =
       let on-day : dayAt e ≡ e .day = mod-eq-of-lt (omega (arith, day)) in
-      accepted a l e g s h (warn-code t l e h k) 7 k _ refl (serviceMove l (l .on)) (rw on-day (warned-set t a e 0 (l .list) (g .kept) (rw k refl) (g .sizes .warned) (omega (arith, day)))) (warn-move t l e k) refl refl unserved
+      accepted a l e g s h (warn-code t l e h k) 7 k _ refl (serviceEffect l (l .on)) (rw on-day (warned-set t a e 0 (l .list) (g .kept) (rw k refl) (g .sizes .warned) (omega (arith, day)))) (warn-move t l e k) refl refl unserved
 
   pub marked : e .sort ≡ 8 → Refines a l e (markOf t c e)
   unfolding markOf cellsBefore
   marked k =
       let limit = mark-limits e k (h .limits) in
-      accepted a l e g s h (mark-code t l e h k) 8 k _ refl (serviceMove l (l .on)) (marks-set t a e 0 (l .list) (g .kept) (rw k refl) (g .sizes .marks) (limit .kind .least) (limit .kind .most) (limit .to)) (mark-move t l e k) refl refl unserved
+      accepted a l e g s h (mark-code t l e h k) 8 k _ refl (serviceEffect l (l .on)) (marks-set t a e 0 (l .list) (g .kept) (rw k refl) (g .sizes .marks) (limit .kind .least) (limit .kind .most) (limit .to)) (mark-move t l e k) refl refl unserved
 
   -- a plan is for a B below 0
   short : planConditionMet t (a .totals) (a .marks) e ≡ true → a .totals .credit ≤ a .totals .debit
@@ -155,14 +155,14 @@ module _ (a : Account) (l : Ledger) (e : Event) (g : Agree (a .terms) a l) (s : 
   deferral-is y = sym (ap (λ (b : ℤ). natAbs (pos (t .connect) -ℤ b)) (g .sums .balance) ∙ diff-gap (a .totals .credit) (a .totals .debit) (t .connect) y)
 
   deferring : e .sort ≡ 9 → planConditionMet t (a .totals) (a .marks) e ≡ true → Refines a l e (deferredOf t c e)
-  unfolding deferredOf planMove cellsBefore
+  unfolding deferredOf planEffect cellsBefore
   deferring k y =
-      let allowed : planAllowed t l e ≡ true = sym plan-is ∙ y in
+      let allowed : mayDefer t l e ≡ true = sym plan-is ∙ y in
       let low : a .totals .credit ≤ a .totals .debit = short y in
       let q : deferralOf t (a .totals) ≡ deferred t l = deferral-is low in
       branch (Refines a l e) (ltb 0 (a .totals .plan))
       (λ p. refused-same a l g e 10 (plan-code t l e h k ∙ simp (allowed, rw (g .sums .plan) at p)) refl)
-      (λ p. accepted a l e g s h (plan-code t l e h k ∙ simp (allowed, rw (g .sums .plan) at p)) 9 k _ refl (planMove t l) tt (plan-move t l e k) refl q
+      (λ p. accepted a l e g s h (plan-code t l e h k ∙ simp (allowed, rw (g .sums .plan) at p)) 9 k _ refl (planEffect t l) tt (plan-move t l e k) refl q
       (record {
         balance = diff-zero (t .connect) ∙ diff-eq (t .connect) 0 (a .totals .credit + deferralOf t (a .totals)) (a .totals .debit) (omega arith);
         plan = ap (λ (x : ℕ). x + deferralOf t (a .totals)) (g .sums .plan) ∙ ap (λ (x : ℕ). l .plan + x) q;
@@ -195,7 +195,7 @@ module _ (a : Account) (l : Ledger) (e : Event) (g : Agree (a .terms) a l) (s : 
       branch (Refines a l e) (isMissing (latestWarning (a .warned) (e .day))) (λ w. refused-same a l g e 13 (disconnect-code t l e h k ∙ simp (o′, b′, sym warning-is ∙ w)) refl)
       (λ w. let w′ = sym warning-is ∙ w in
       branch (Refines a l e) (barredOn t (a .marks) e) (λ r. refused-same a l g e 14 (disconnect-code t l e h k ∙ simp (o′, b′, w′, sym barred-is ∙ r)) refl)
-      (λ r. accepted a l e g s h (disconnect-code t l e h k ∙ simp (o′, b′, w′, sym barred-is ∙ r)) 10 k _ refl (serviceMove l false) tt (disconnect-move t l e k) refl refl (still false false refl)))))
+      (λ r. accepted a l e g s h (disconnect-code t l e h k ∙ simp (o′, b′, w′, sym barred-is ∙ r)) 10 k _ refl (serviceEffect l false) tt (disconnect-move t l e k) refl refl (still false false refl)))))
 
   pub connects : e .sort ≡ 11 → Refines a l e (connectOf t c e)
   unfolding connectOf servedOf cellsBefore
@@ -203,4 +203,4 @@ module _ (a : Account) (l : Ledger) (e : Event) (g : Agree (a .terms) a l) (s : 
       branch (Refines a l e) (a .totals .on) (λ o. refused-same a l g e 11 (connect-code t l e h k ∙ simp (rw (g .sums .on) at o)) refl)
       (λ o. let o′ : l .on ≡ false = rw (g .sums .on) at o in
       branch (Refines a l e) (ltb (a .totals .credit) (a .totals .debit + t .connect)) (λ b. refused-same a l g e 12 (connect-code t l e h k ∙ simp (o′, sym connect-is ∙ b)) refl)
-      (λ b. accepted a l e g s h (connect-code t l e h k ∙ simp (o′, sym connect-is ∙ b)) 11 k _ refl (serviceMove l true) tt (connect-move t l e k) refl refl (still true true refl)))
+      (λ b. accepted a l e g s h (connect-code t l e h k ∙ simp (o′, sym connect-is ∙ b)) 11 k _ refl (serviceEffect l true) tt (connect-move t l e k) refl refl (still true true refl)))

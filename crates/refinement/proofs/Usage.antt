@@ -12,14 +12,14 @@ use lib.IntN.{ℤ, pos, _+ℤ_, _-ℤ_}
 use borrow.Author.Tests.{leb-false, not-true}
 use Rattle.terms.specs.declared.Terms.{Terms}
 use Rattle.ledger.specs.declared.Event.{Event}
-use Rattle.ledger.specs.Entries.{any, readOn, estimateOn, priceOn, UsageDay, blank, estimated, metered, usageDay, isBlank, isMetered, estimateCost}
+use Rattle.ledger.specs.Entries.{usageCost, any, readOn, estimateOn, priceOn, UsageDay, blank, estimated, metered, usageDay, isBlank, isMetered, estimateCost}
 use Rattle.ledger.specs.Rules.{Ledger}
-use Rattle.ledger.specs.Ledger.{estimateMove, readMove, eventCost, refusal}
+use Rattle.ledger.specs.Ledger.{estimateEffect, readEffect, refusal}
 use Rattle.ledger.specs.Invariant.{Invariant}
 use Rattle.ledger.proofs.Cases.{neither}
 use Rattle.ledger.proofs.Money.{diff, diff-sub}
 use Rattle.ledger.proofs.Identity.{blank-is}
-use Rattle.moves.specs.Moves.{cellsBefore, refusing, byUsage, usageCost, estimateOf, estimatedOf, readOf, meteredOf}
+use Rattle.moves.specs.Moves.{cellsBefore, refusing, byUsage, whCost, estimateOf, estimatedOf, readOf, meteredOf}
 use Rattle.moves.specs.declared.Usage.{Usage}
 use Rattle.moves.specs.declared.Move.{Move}
 use Rattle.moves.proofs.Arms.{branch}
@@ -27,7 +27,7 @@ use Rattle.moves.proofs.Early.{cost-on}
 use Rattle.account.specs.Record.{blankDay}
 use Rattle.account.specs.Step.{usageAt, cellsOf}
 use Rattle.account.specs.declared.Account.{Account}
-use Rattle.refinement.specs.Agree.{Agree, usageOf}
+use Rattle.refinement.specs.Agree.{Agree, recordedUsage}
 use Rattle.refinement.proofs.Fields.{usage-estimated, usage-metered}
 use Rattle.refinement.proofs.Refusals.{Passes, estimate-code, read-code, estimate-move, read-move}
 use Rattle.refinement.proofs.Keeps.{days-set}
@@ -45,7 +45,7 @@ module _ (a : Account) (l : Ledger) (e : Event) (g : Agree (a .terms) a l) (s : 
   abbrev state : UsageDay
   state = usageDay t (l .list) (e .usage)
 
-  cost-is : usageCost t e ≡ eventCost t l e
+  cost-is : whCost t e ≡ usageCost t (l .list) e
   unfolding priceOn
   cost-is = refl
 
@@ -60,24 +60,24 @@ module _ (a : Account) (l : Ledger) (e : Event) (g : Agree (a .terms) a l) (s : 
     usage-is : usageAt e ≡ e .usage
     usage-is = mod-eq-of-lt used
 
-    state-is : usageOf state ≡ c .day .usage
+    state-is : recordedUsage state ≡ c .day .usage
     unfolding cellsBefore
     state-is = sym (ap (λ (i : ℕ). getD (a .days) i blankDay .usage) usage-is ∙ g .kept .days (e .usage) used)
 
     estimating : e .sort ≡ 5 → isBlank state ≡ true → Refines a l e (estimatedOf t c e)
-    unfolding estimatedOf estimateMove cellsBefore
+    unfolding estimatedOf estimateEffect cellsBefore
     estimating k y =
         let z : refusal t l e ≡ 0 = estimate-code t l e h k ∙ simp (f, y) in
         let free : (any (readOn (e .usage)) (l .list) || any (estimateOn (e .usage)) (l .list)) ≡ false = not-true _ (sym (blank-is t (l .list) (e .usage)) ∙ y) in
         let most = cost-on t (a .totals) e (facts a l g e h) (inl k) in
-        accepted a l e g s h z 5 k _ refl (estimateMove t l e) (
-          rw usage-is (days-set t a e 0 (l .list) (g .kept) (estimated (e .wh) (usageCost t e)) (g .sizes .days) used (usage-estimated e 0 (l .list) t (rw k refl) (rw k refl) (neither _ _ free .0))),
+        accepted a l e g s h z 5 k _ refl (estimateEffect t l e) (
+          rw usage-is (days-set t a e 0 (l .list) (g .kept) (estimated (e .wh) (whCost t e)) (g .sizes .days) used (usage-estimated e 0 (l .list) t (rw k refl) (rw k refl) (neither _ _ free .0))),
           omega (arith, g .sums .standing, simp (sort-is k 6 refl, sort-is k 5 refl) at (standing-is a l g e h s z 0), cost-is),
           omega (arith, g .bounds .standing, most),
         )
         (estimate-move t l e k) refl cost-is
         (record {
-          balance = lowered a l g (eventCost t l e) ∙ ap (λ (x : ℕ). diff (a .totals .credit) (a .totals .debit + x)) (sym cost-is);
+          balance = lowered a l g (usageCost t (l .list) e) ∙ ap (λ (x : ℕ). diff (a .totals .credit) (a .totals .debit + x)) (sym cost-is);
           plan = g .sums .plan;
           on = g .sums .on;
           credit-most = omega (arith, g .bounds .credit);
@@ -86,20 +86,20 @@ module _ (a : Account) (l : Ledger) (e : Event) (g : Agree (a .terms) a l) (s : 
         })
 
     reading : (old : ℕ) → e .sort ≡ 6 → isMetered state ≡ false → old ≡ estimateCost state → old ≤ 10000000 → Refines a l e (meteredOf t c e old)
-    unfolding meteredOf readMove cellsBefore
+    unfolding meteredOf readEffect cellsBefore
     reading old k y q small =
         let z : refusal t l e ≡ 0 = read-code t l e h k ∙ simp (f, y) in
         let most = cost-on t (a .totals) e (facts a l g e h) (inr k) in
-        accepted a l e g s h z 6 k _ refl (readMove t l e) (
-          rw usage-is (days-set t a e 0 (l .list) (g .kept) (metered (e .wh) (usageCost t e)) (g .sizes .days) used (usage-metered e 0 (l .list) t (rw k refl))),
+        accepted a l e g s h z 6 k _ refl (readEffect t l e) (
+          rw usage-is (days-set t a e 0 (l .list) (g .kept) (metered (e .wh) (whCost t e)) (g .sizes .days) used (usage-metered e 0 (l .list) t (rw k refl))),
           omega (arith, g .sums .standing, simp (sort-is k 6 refl, sort-is k 5 refl) at (standing-is a l g e h s z 0), q),
           omega (arith, g .bounds .standing),
         )
         (read-move t l e k) refl cost-is
         (record {
-          balance = ap (λ (x : ℤ). x -ℤ pos (eventCost t l e)) (raised a l g (estimateCost state))
-              ∙ diff-sub (a .totals .credit + estimateCost state) (a .totals .debit) (eventCost t l e)
-              ∙ ap (λ (x : ℕ). diff (a .totals .credit + x) (a .totals .debit + eventCost t l e)) (sym q)
+          balance = ap (λ (x : ℤ). x -ℤ pos (usageCost t (l .list) e)) (raised a l g (estimateCost state))
+              ∙ diff-sub (a .totals .credit + estimateCost state) (a .totals .debit) (usageCost t (l .list) e)
+              ∙ ap (λ (x : ℕ). diff (a .totals .credit + x) (a .totals .debit + usageCost t (l .list) e)) (sym q)
               ∙ ap (λ (x : ℕ). diff (a .totals .credit + old) (a .totals .debit + x)) (sym cost-is);
           plan = g .sums .plan;
           on = g .sums .on;
@@ -109,12 +109,12 @@ module _ (a : Account) (l : Ledger) (e : Event) (g : Agree (a .terms) a l) (s : 
         })
 
     -- by the day's state
-    estimate-by : e .sort ≡ 5 → (d : UsageDay) → state ≡ d → Refines a l e (byUsage (usageOf d) (estimatedOf t c e) (λ (old : ℕ). refusing c 8) (refusing c 8))
+    estimate-by : e .sort ≡ 5 → (d : UsageDay) → state ≡ d → Refines a l e (byUsage (recordedUsage d) (estimatedOf t c e) (λ (old : ℕ). refusing c 8) (refusing c 8))
     estimate-by k blank q = estimating k (ap isBlank q)
     estimate-by k (estimated wh cost) q = refused-same a l g e 8 (estimate-code t l e h k ∙ simp (f, q)) refl
     estimate-by k (metered wh cost) q = refused-same a l g e 8 (estimate-code t l e h k ∙ simp (f, q)) refl
 
-    read-by : e .sort ≡ 6 → (d : UsageDay) → state ≡ d → Refines a l e (byUsage (usageOf d) (meteredOf t c e 0) (λ (old : ℕ). meteredOf t c e old) (refusing c 8))
+    read-by : e .sort ≡ 6 → (d : UsageDay) → state ≡ d → Refines a l e (byUsage (recordedUsage d) (meteredOf t c e 0) (λ (old : ℕ). meteredOf t c e old) (refusing c 8))
     read-by k blank q = reading 0 k (ap isMetered q) (sym (ap estimateCost q)) (omega arith)
     read-by k (estimated wh cost) q = reading cost k (ap isMetered q) (sym (ap estimateCost q)) (rw q at (g .kept .held (e .usage)))
     read-by k (metered wh cost) q = refused-same a l g e 8 (read-code t l e h k ∙ simp (f, q)) refl

@@ -12,12 +12,12 @@ use Rattle.terms.specs.declared.Terms.{Terms}
 use Rattle.ledger.specs.declared.Event.{Event}
 use Rattle.ledger.specs.declared.Answer.{Answer}
 use Rattle.ledger.specs.Event.{isWarn, maxAmount, chargeKindCount}
-use Rattle.ledger.specs.Entries.{Entries, any, lastDay, payments, payment, reversed, UsageDay, blank, estimated, metered, usageDay, covered}
+use Rattle.ledger.specs.Entries.{Entries, any, lastDay, paymentCount, payment, reversed, UsageDay, blank, estimated, metered, usageDay, covered}
 use Rattle.ledger.specs.Rules.{Ledger, maxEvents, maxPayments}
 use Rattle.ledger.specs.Ledger.{Outcome, opening, ledgerStep, ledgerAfter}
 use Rattle.ledger.specs.Calls.{ledgerCodes}
 use Rattle.ledger.specs.Invariant.{Invariant}
-use Rattle.ledger.specs.Sums.{standing}
+use Rattle.ledger.specs.Sums.{standingCost}
 use Rattle.ledger.specs.Months.{chargesIn}
 use Rattle.account.specs.Record.{blankDay, noPayment, costHeld, fresh}
 use Rattle.account.specs.Step.{stepOf}
@@ -30,27 +30,27 @@ use Rattle.account.specs.declared.Posted.{Posted}
 use Rattle.refinement.specs.Lists.{accountAfter, codesOf}
 
 -- a usage day's state as the record has it
-abbrev pub usageOf : UsageDay → Usage
-usageOf blank = Blank
-usageOf (estimated wh cost) = Estimated wh cost
-usageOf (metered wh cost) = Metered wh cost
+abbrev pub recordedUsage : UsageDay → Usage
+recordedUsage blank = Blank
+recordedUsage (estimated wh cost) = Estimated wh cost
+recordedUsage (metered wh cost) = Metered wh cost
 
 -- payment n as the record has it
-abbrev pub paymentOf : ℕ → Entries → Payment
-paymentOf n l = record {
-  day = payment n l .event .day;
-  amount = payment n l .event .amount;
-  part = payment n l .part;
-  reversed = reversed n l;
+abbrev pub recordedPayment : Entries → ℕ → Payment
+recordedPayment l n = record {
+  day = payment l n .event .day;
+  amount = payment l n .event .amount;
+  part = payment l n .part;
+  reversed = reversed l n;
 }
 
 -- a day's byte of marks
-abbrev pub marksOf : ℕ → Entries → ℕ
-marksOf d l = cond (covered 1 d l) 1 0 + (cond (covered 2 d l) 2 0 + cond (covered 3 d l) 4 0)
+abbrev pub recordedMarks : Entries → ℕ → ℕ
+recordedMarks l d = cond (covered l 1 d) 1 0 + (cond (covered l 2 d) 2 0 + cond (covered l 3 d) 4 0)
 
 -- whether an accepted warning was issued on day d
-unfoldable pub warnedOn : ℕ → Entries → Bool
-warnedOn d l = any (λ (e : Event). isWarn e && eqb (e .day) d) l
+unfoldable pub warnedOn : Entries → ℕ → Bool
+warnedOn l d = any (λ (e : Event). isWarn e && eqb (e .day) d) l
 
 -- the totals
 pub record Sums (t : Terms) (s : Totals) (l : Ledger) : Type 0 where
@@ -59,8 +59,8 @@ pub record Sums (t : Terms) (s : Totals) (l : Ledger) : Type 0 where
   pub balance : l .balance ≡ pos (s .credit) -ℤ pos (s .debit)
   pub plan : s .plan ≡ l .plan
   pub on : s .on ≡ l .on
-  pub standing : s .standing ≡ standing t (l .list)
-  pub count : s .count ≡ payments (l .list)
+  pub standing : s .standing ≡ standingCost t (l .list)
+  pub count : s .count ≡ paymentCount (l .list)
 
 -- how far a total can be after so many events
 pub record Bounds (s : Totals) : Type 0 where
@@ -73,14 +73,14 @@ pub record Bounds (s : Totals) : Type 0 where
 
 -- what is kept by payment, usage day, day, and month with charge kind
 pub record Kept (t : Terms) (a : Account) (l : Entries) : Type 0 where
-  pub payments : (n : ℕ) → n < payments l → getD (a .payments) n noPayment ≡ paymentOf n l
-  pub amounts : (n : ℕ) → payment n l .event .amount ≤ maxAmount
-  pub days : (u : ℕ) → u < dayCount → getD (a .days) u blankDay .usage ≡ usageOf (usageDay t l u)
-  pub held : (u : ℕ) → costHeld (usageOf (usageDay t l u)) ≤ 10000000
-  pub marks : (d : ℕ) → d < dayCount → getD (a .marks) d 0 ≡ marksOf d l
-  pub warned : (d : ℕ) → d < dayCount → getD (a .warned) d 0 ≡ cond (warnedOn d l) 1 0
-  pub charges : (m k : ℕ) → m < monthCount → k < chargeKindCount → getD (a .charges) (5 * m + k) 0 ≡ chargesIn t m (suc k) l
-  pub charged : (m k : ℕ) → chargesIn t m k l ≤ length l * maxAmount
+  pub payments : (n : ℕ) → n < paymentCount l → getD (a .payments) n noPayment ≡ recordedPayment l n
+  pub amounts : (n : ℕ) → payment l n .event .amount ≤ maxAmount
+  pub days : (u : ℕ) → u < dayCount → getD (a .days) u blankDay .usage ≡ recordedUsage (usageDay t l u)
+  pub held : (u : ℕ) → costHeld (recordedUsage (usageDay t l u)) ≤ 10000000
+  pub marks : (d : ℕ) → d < dayCount → getD (a .marks) d 0 ≡ recordedMarks l d
+  pub warned : (d : ℕ) → d < dayCount → getD (a .warned) d 0 ≡ cond (warnedOn l d) 1 0
+  pub charges : (m k : ℕ) → m < monthCount → k < chargeKindCount → getD (a .charges) (5 * m + k) 0 ≡ chargesIn t l m (suc k)
+  pub charged : (m k : ℕ) → chargesIn t l m k ≤ length l * maxAmount
 
 pub record Sizes (a : Account) : Type 0 where
   pub payments : length (a .payments) ≡ maxPayments

@@ -10,7 +10,7 @@ use Rattle.terms.specs.declared.Terms.{Terms}
 use Rattle.ledger.specs.declared.Event.{Event}
 use Rattle.ledger.specs.Rules.{Ledger}
 use Rattle.ledger.specs.Ledger.{Outcome, opening, ledgerStep}
-use Rattle.ledger.specs.Sums.{settled, standing}
+use Rattle.ledger.specs.Sums.{settled, standingCost}
 use Rattle.scanner.specs.Scanner.{Read, got, broken}
 use Rattle.text.specs.Text.{readTerms, readEvent}
 use Rattle.printing.specs.Printing.{decimal, signed, Whole}
@@ -51,7 +51,7 @@ lastLine sum cost = wSettled ++ (signed sum ++ (wEstimates ++ (decimal cost ++ w
 
 -- the last line of a ledger
 abbrev pub closing : Terms → Ledger → List ℕ
-closing t l = lastLine (settled t (l .list)) (standing t (l .list))
+closing t l = lastLine (settled t (l .list)) (standingCost t (l .list))
 
 -- The lines of the events that stand in the bytes, the first of them with ordinal n, and the last line, by `more`: the lines from the next
 -- event on. "Code 15 prints its line and no more is read, then the last line."

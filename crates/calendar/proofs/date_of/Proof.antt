@@ -5,7 +5,7 @@ use borrow.Author.Tests.{not-true, not-false, le-leb, lt-leb}
 use native.Mathlib.Omega.{arith}
 use borrow.Author.Needs.{needs}
 use Rattle.calendar.specs.Calendar.{opens}
-use Rattle.calendar.specs.Work.{carry, InYear}
+use Rattle.calendar.specs.Work.{yearTaken, InYear}
 use Rattle.calendar.specs.declared.Dated.the-variants.{On}
 use Rattle.calendar.proofs.Laws.{RealTo, opens-real}
 use Rattle.calendar.proofs.Years.{placeOf, year-range, place-below, once-year, twice-left, date-is}
@@ -24,11 +24,11 @@ left-limit c =
     omega (arith, rw (c .before .before .leap .ensures) at (c .before .days-before .ensures), place-below o (known (c .before .before .before) .real), year-range (o .year))
 
 -- the place after one year is taken out, and after two
-once : (c : tie.After-carried) → c .carried .result ≡ carry (placeOf (c .before .before .before .before .before .before .before .args .opened) (c .before .before .before .before .before .before .before .args .k))
-once c = rw (c .before .before .days-before .ensures, c .before .before .before .leap .ensures) at (c .carried .ensures)
+once : (c : tie.After-take-year) → c .take-year .result ≡ yearTaken (placeOf (c .before .before .before .before .before .before .before .args .opened) (c .before .before .before .before .before .before .before .args .k))
+once c = rw (c .before .before .days-before .ensures, c .before .before .before .leap .ensures) at (c .take-year .ensures)
 
-twice : (c : tie.After-carried2) → c .carried2 .result ≡ carry (carry (placeOf (c .before .before .before .before .before .before .before .before .args .opened) (c .before .before .before .before .before .before .before .before .args .k)))
-twice c = rw (once (c .before)) at (c .carried2 .ensures)
+twice : (c : tie.After-take-year2) → c .take-year2 .result ≡ yearTaken (yearTaken (placeOf (c .before .before .before .before .before .before .before .before .args .opened) (c .before .before .before .before .before .before .before .before .args .k)))
+twice c = rw (once (c .before)) at (c .take-year2 .ensures)
 
 can-open-requires : tie.Need-can-open-requires
 can-open-requires c κs = search needs
@@ -54,11 +54,11 @@ add-left c = omega (arith, left-limit c)
 add-left-2 : tie.Need-add-left-2
 add-left-2 c = omega (arith, left-limit c, c .before .before .before .if2 .left)
 
-carried-requires : tie.Need-carried-requires
-carried-requires c κs = omega (arith, known (c .before .before .before))
+take-year-requires : tie.Need-take-year-requires
+take-year-requires c κs = omega (arith, known (c .before .before .before))
 
-carried-requires-2 : tie.Need-carried-requires-2
-carried-requires-2 c κs =
+take-year-requires-2 : tie.Need-take-year-requires-2
+take-year-requires-2 c κs =
     let b = c .before .before .before .before in
     let a = b .before .before .before .args in
     rw (once c) (once-year (a .opened) (known b) (a .k) (b .if2 .left))
@@ -73,7 +73,7 @@ returns-3 : tie.Need-returns-3
 returns-3 c =
     let b = c .before .before .before .before .before .before in
     let a = b .before .before .before .args in
-    let i : InYear (carry (carry (placeOf (a .opened) (a .k))) .year) (carry (carry (placeOf (a .opened) (a .k))) .left) (c .date-in .result) = rw (twice (c .before)) at (c .date-in .ensures) in
+    let i : InYear (yearTaken (yearTaken (placeOf (a .opened) (a .k))) .year) (yearTaken (yearTaken (placeOf (a .opened) (a .k))) .left) (c .date-in .result) = rw (twice (c .before)) at (c .date-in .ensures) in
     simp (open-is (b .before), le-leb _ _ (b .if2 .left)) (ap On (date-is (a .opened) (known b) (a .k) (b .if2 .left) (c .date-in .result) i))
 
 pub date-of-spec : {M : Type 1} → statement M
@@ -88,7 +88,7 @@ date-of-spec =
     sub-left
     add-left
     add-left-2
-    carried-requires
-    carried-requires-2
+    take-year-requires
+    take-year-requires-2
     date-in-requires
     returns-3)

@@ -4,7 +4,7 @@ use Prim.Native.Nat.{ℕ, _+_, _-_}
 use borrow.Author.Tests.{not-true, not-false, le-leb}
 use native.Mathlib.Omega.{arith}
 use borrow.Author.Needs.{needs}
-use Rattle.calendar.specs.Calendar.{opens, reached, isDay, dateOn, daysAfter}
+use Rattle.calendar.specs.Calendar.{opens, inReach, isDay, dateOn, daysAfter}
 use Rattle.calendar.proofs.Laws.{opens-real, opens-reached, reached-real, day-limits, day-reached, day-real, same-day}
 use Rattle.calendar.proofs.day_of.Statement.{statement}
 use Rattle.calendar.proofs.day_of.Tie as tie
@@ -12,7 +12,7 @@ use Rattle.calendar.proofs.day_of.Tie as tie
 open-is : (c : tie.Else1) → opens (c .before .before .args .opened) ≡ true
 open-is c = sym (c .before .can-open .ensures) ∙ not-false _ (c .if1 .left)
 
-reached-is : (c : tie.Else2) → reached (c .before .before .before .before .args .d) ≡ true
+reached-is : (c : tie.Else2) → inReach (c .before .before .before .before .args .d) ≡ true
 reached-is c = sym (c .before .is-reached .ensures) ∙ not-false _ (c .if2 .left)
 
 -- where the date is day k, k is the difference of their days
@@ -32,7 +32,7 @@ is-reached-requires : tie.Need-is-reached-requires
 is-reached-requires c κs = search needs
 
 returns-2 : tie.Need-returns-2
-returns-2 c = λ k e d. false≢true (sym (not-true _ (c .if2 .taken)) ∙ (c .before .is-reached .ensures ∙ (ap reached (sym d) ∙ day-reached _ k e)))
+returns-2 c = λ k e d. false≢true (sym (not-true _ (c .if2 .taken)) ∙ (c .before .is-reached .ensures ∙ (ap inReach (sym d) ∙ day-reached _ k e)))
 
 days-after-requires : tie.Need-days-after-requires
 days-after-requires c κs = opens-reached _ (open-is (c .before .before))

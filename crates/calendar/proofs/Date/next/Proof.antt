@@ -3,12 +3,12 @@ use mathlib.Core.Bool.{true}
 use borrow.Author.Tests.{lt-ltb, le-ltb, not-true, not-false}
 use native.Mathlib.Omega.{arith}
 use borrow.Author.Needs.{needs}
-use Rattle.calendar.specs.Calendar.{nextOf, reached}
+use Rattle.calendar.specs.Calendar.{nextOf, inReach}
 use Rattle.calendar.proofs.Laws.{reached-real}
 use Rattle.calendar.proofs.Date.next.Statement.{statement}
 use Rattle.calendar.proofs.Date.next.Tie as tie
 
-reached-is : (c : tie.Else1) → reached (c .before .before .args .self) ≡ true
+reached-is : (c : tie.Else1) → inReach (c .before .before .args .self) ≡ true
 reached-is c = sym (c .before .is-reached .ensures) ∙ not-false _ (c .if1 .left)
 
 is-reached-requires : tie.Need-is-reached-requires

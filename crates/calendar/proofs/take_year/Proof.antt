@@ -1,7 +1,7 @@
 use borrow.Author.Tests.{lt-ltb, le-ltb}
 use borrow.Author.Needs.{needs}
-use Rattle.calendar.proofs.carried.Statement.{statement}
-use Rattle.calendar.proofs.carried.Tie as tie
+use Rattle.calendar.proofs.take_year.Statement.{statement}
+use Rattle.calendar.proofs.take_year.Tie as tie
 
 year-length-requires : tie.Need-year-length-requires
 year-length-requires c κs = search needs
@@ -15,5 +15,5 @@ add-t4 c = search needs
 returns-2 : tie.Need-returns-2
 returns-2 c = simp (le-ltb _ _ (rw (c .before .before .before .before .year-length .ensures) at (c .before .before .if1 .left)), c .before .before .before .before .year-length .ensures)
 
-pub carried-spec : {M : Type 1} → statement M
-carried-spec = tie.close (tie.spec year-length-requires returns add-t4 returns-2)
+pub take-year-spec : {M : Type 1} → statement M
+take-year-spec = tie.close (tie.spec year-length-requires returns add-t4 returns-2)
