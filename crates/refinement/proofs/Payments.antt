@@ -15,7 +15,7 @@ use Rattle.calendar.specs.Calendar.{isDay, opens, monthOn}
 use Rattle.calendar.proofs.Laws.{month-limit}
 use Rattle.terms.specs.declared.Terms.{Terms}
 use Rattle.ledger.specs.declared.Event.{Event}
-use Rattle.ledger.specs.Entries.{Entries, lastDay, paymentCount, payment, reversed}
+use Rattle.ledger.specs.Entries.{Entries, lastDay, paymentCount, paidAmount, paidPart, reversed}
 use Rattle.ledger.specs.Rules.{Ledger}
 use Rattle.ledger.specs.Sums.{standingCost}
 use Rattle.ledger.specs.Months.{monthOf}
@@ -97,8 +97,7 @@ module _ (t : Terms) (a : Account) (l : Ledger) (e : Event) (g : Agree t a l) (s
       let y : e .number < paymentCount (l .list) = leb-false (paymentCount (l .list)) (e .number) f in
       let q : paymentAt a e ≡ recordedPayment (l .list) (e .number) = payment-is y in
       let r′ : paymentAt a e .reversed ≡ false = ap (λ (x : Payment). x .reversed) q ∙ r in
-      let old = payment (l .list) (e .number) in
-      let back : ℕ = old .event .amount - old .part in
+      let back : ℕ = paidAmount (l .list) (e .number) - paidPart (l .list) (e .number) in
       let z : refusal t l e ≡ 0 = reverse-code t l e h k ∙ simp (f, r) in
       simp (f′, r′) (rw (takes t l e (reverseEffect l e) z (reverse-move t l e k))
       (record {
@@ -111,7 +110,7 @@ module _ (t : Terms) (a : Account) (l : Ledger) (e : Event) (g : Agree t a l) (s
               balance = ap (λ (x : ℤ). x -ℤ pos back) (g .sums .balance)
                   ∙ diff-sub (a .totals .credit) (a .totals .debit) back
                   ∙ ap (λ (x : Payment). diff (a .totals .credit) (a .totals .debit + (x .amount - x .part))) (sym q);
-              plan = ap (λ (x : Payment). a .totals .plan + x .part) q ∙ ap (λ (x : ℕ). x + old .part) (g .sums .plan);
+              plan = ap (λ (x : Payment). a .totals .plan + x .part) q ∙ ap (λ (x : ℕ). x + paidPart (l .list) (e .number)) (g .sums .plan);
               on = g .sums .on;
               standing = g .sums .standing ∙ standing-still t a l g e h s z 0 (rw k refl) (rw k refl);
               count = g .sums .count ∙ sym (payments-same e 0 (l .list) (rw k refl));
