@@ -8,7 +8,7 @@ use Rattle.terms.specs.declared.Terms.{Terms}
 use Rattle.ledger.specs.declared.Event.{Event}
 use Rattle.ledger.specs.declared.Answer.{Answer}
 use Rattle.ledger.specs.Event.{isPay, isReverse, isCredit, isCharge, isEstimate, isRead, isPlan, isDisconnect, isConnect}
-use Rattle.ledger.specs.Entries.{Entry, paymentCount, paidAmount, paidPart, usageCost, usageDay, estimateCost}
+use Rattle.ledger.specs.Entries.{paymentCount, paidAmount, paidPart, usageCost, usageDay, estimateCost}
 use Rattle.ledger.specs.Rules.{Ledger, refusals, firstOf}
 
 -- "At first L is empty, B and R are 0, service is off."

@@ -1,25 +1,21 @@
 -- What one more entry changes of what is read off L, and what it leaves.
 -- Assumes nothing.
-use Prim.Native.Nat.{ℕ, zero, suc, _+_, _*_, _-_, _≤_, _<_}
+use Prim.Native.Nat.{ℕ, _+_, _≤_}
 use native.Mathlib.Omega.{arith}
-use native.Mathlib.Numerals.{add-one}
-use mathlib.Core.Path.{_≡_, refl, sym, ap, _∙_}
-use mathlib.Core.Bool.{Bool, true, false, cond, not, _&&_, _||_}
-use mathlib.Core.List.{List, [], _∷_}
+use mathlib.Core.Path.{_≡_, refl}
+use mathlib.Core.Bool.{Bool, true, false, cond, _&&_, _||_}
+use mathlib.Core.List.{_∷_}
 use mathlib.Core.Option.{some}
-use lib.ListN.{length, getD, set}
-use lib.Seq.{getD-set-same, getD-set-other}
-use lib.Dec.{ltb, leb, eqb}
-use borrow.Author.Tests.{eq-eqb, ne-eqb, eqb-true, eqb-false}
+use lib.Dec.{leb, eqb}
+use borrow.Author.Tests.{eq-eqb, ne-eqb}
 use Rattle.tariff.specs.Tariff.{costOf}
 use Rattle.terms.specs.declared.Terms.{Terms}
 use Rattle.ledger.specs.declared.Event.{Event}
 use Rattle.ledger.specs.Event.{isPay, isReverse, isCharge, isEstimate, isRead, isWarn, isMark}
-use Rattle.ledger.specs.Entries.{Entry, Entries, any, count, sum, find, paidAmount, paymentCount, payment, hasNumber, reversed, UsageDay, blank, estimated, metered, usageDay, readOn, estimateOn, whOn, priceOn, covered}
+use Rattle.ledger.specs.Entries.{Entries, any, count, sum, find, paidAmount, paymentCount, payment, hasNumber, reversed, estimated, metered, usageDay, readOn, estimateOn, whOn, priceOn, covered}
 use Rattle.ledger.specs.Months.{chargesIn, monthOf}
 use Rattle.ledger.proofs.Cases.{decide, both}
-use Rattle.account.specs.Record.{blankDay, noPayment, costHeld}
-use Rattle.refinement.specs.Agree.{recordedUsage, recordedPayment, recordedMarks, warnedOn}
+use Rattle.refinement.specs.Agree.{warnedOn}
 
 module _ (e : Event) (p : ℕ) (l : Entries) where
   abbrev pub more : Entries

@@ -1,31 +1,27 @@
 -- What is kept by payment, usage day, day and month after one more entry: unchanged, or with the event's own change.
 -- Assumes nothing.
-use Prim.Native.Nat.{ℕ, zero, suc, _+_, _*_, _-_, _≤_, _<_}
+use Prim.Native.Nat.{ℕ, suc, _+_, _*_, _-_, _≤_, _<_}
 use native.Mathlib.Omega.{arith}
 use mathlib.Core.Path.{_≡_, refl, sym, ap, _∙_, subst}
-use mathlib.Core.Bool.{Bool, true, false, cond, not, _&&_, _||_, and-false, and-true, true≢false}
-use mathlib.Core.List.{List, [], _∷_}
-use mathlib.Core.Logic.{inl, inr}
+use mathlib.Core.Bool.{Bool, true, false, cond, _&&_, and-false, and-true, true≢false}
+use mathlib.Core.Logic.{inl}
 use lib.ListN.{length, getD, set}
 use lib.Seq.{getD-set-same, getD-set-other}
-use lib.Dec.{ltb, leb, eqb}
-use lib.Bits.{bitOr}
-use borrow.Author.Tests.{eq-eqb, ne-eqb, eqb-true, eqb-false}
-use Rattle.calendar.specs.Calendar.{monthOn, isDay, opens}
-use Rattle.tariff.specs.Tariff.{costOf}
+use lib.Dec.{leb, eqb}
+use borrow.Author.Tests.{eq-eqb, eqb-true, eqb-false}
+use Rattle.calendar.specs.Calendar.{monthOn}
 use Rattle.terms.specs.declared.Terms.{Terms}
-use Rattle.marks.specs.Marks.{marked, markBit}
+use Rattle.marks.specs.Marks.{marked}
 use Rattle.marks.proofs.Laws.{marked-at, byte-or}
 use Rattle.ledger.specs.declared.Event.{Event}
 use Rattle.ledger.specs.Event.{isPay, isReverse, isCharge, isEstimate, isRead, isWarn, isMark, inLimits}
-use Rattle.ledger.specs.Entries.{Entry, Entries, any, paymentCount, paidOn, paidAmount, paidPart, reversed, UsageDay, blank, estimated, metered, usageDay, readOn, estimateOn, covered}
+use Rattle.ledger.specs.Entries.{Entries, any, paymentCount, paidOn, paidAmount, paidPart, reversed, UsageDay, usageDay, readOn, estimateOn, covered}
 use Rattle.ledger.specs.Months.{chargesIn, monthOf}
 use Rattle.ledger.proofs.Cases.{decide, both}
 use Rattle.account.specs.Record.{blankDay, noPayment, costHeld}
 use Rattle.account.specs.declared.Account.{Account}
 use Rattle.moves.specs.declared.Payment.{Payment}
 use Rattle.moves.specs.declared.Day.{Day}
-use Rattle.moves.specs.declared.Usage.the-variants.{Blank, Estimated, Metered}
 use Rattle.moves.proofs.Cost.{cost-limit}
 use Rattle.moves.proofs.Early.{amount-limits, charge-limits, usage-limits}
 use Rattle.refinement.specs.Agree.{Kept, recordedUsage, recordedPayment, recordedMarks, warnedOn}

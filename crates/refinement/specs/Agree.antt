@@ -5,12 +5,11 @@ use mathlib.Core.Bool.{Bool, true, cond, _&&_}
 use mathlib.Core.List.{List}
 use lib.ListN.{length, getD}
 use lib.Dec.{eqb}
-use lib.IntN.{ℤ, pos, _-ℤ_}
+use lib.IntN.{pos, _-ℤ_}
 use Rattle.calendar.specs.Calendar.{dayCount, monthCount}
 use Rattle.terms.specs.Terms.{validTerms}
 use Rattle.terms.specs.declared.Terms.{Terms}
 use Rattle.ledger.specs.declared.Event.{Event}
-use Rattle.ledger.specs.declared.Answer.{Answer}
 use Rattle.ledger.specs.Event.{isWarn, maxAmount, chargeKindCount}
 use Rattle.ledger.specs.Entries.{Entries, any, lastDay, paymentCount, paidOn, paidAmount, paidPart, reversed, UsageDay, blank, estimated, metered, usageDay, covered}
 use Rattle.ledger.specs.Rules.{Ledger, maxEvents, maxPayments}
