@@ -11,7 +11,7 @@ use base.Logic.{SProp, ent, sep, emp, never, ex, id⊢, via, fst∗, snd∗, exE
 use prog.Memory.{Memory}
 use prog.Routine.{Routine}
 use prog.Wp.{Heap}
-use ghost.Atoms.{Atoms, sem}
+use ghost.Atoms.{Atoms}
 use contract.Monad.{Fun, fact, factI, fact-mono, fact-use}
 use contract.Lifetimes.{Lfts}
 use lib.IntN.{ℤ}

@@ -2,14 +2,14 @@
 -- Assumes nothing.
 use Prim.Native.Nat.{ℕ}
 use mathlib.Core.Path.{_≡_, refl, sym, ap, _∙_}
-use mathlib.Core.Bool.{true, false, cond}
+use mathlib.Core.Bool.{cond}
 use mathlib.Core.List.{List, [], _∷_, _++_}
 use mathlib.Core.Logic.{_↔_}
 use lib.ListN.{length, getD, drop}
 use lib.Dec.{ltb}
 use lib.IntN.{ℤ, pos, negℤ, natAbs, _+ℤ_, _-ℤ_, +ℤ-idl, +ℤ-idr, +ℤ-invl, +ℤ-assoc}
 use borrow.Author.Tests.{eqb-true}
-use Rattle.terms.specs.Terms.{validTerms, termsCode}
+use Rattle.terms.specs.Terms.{termsCode}
 use Rattle.terms.specs.declared.Terms.{Terms}
 use Rattle.ledger.specs.declared.Event.{Event}
 use Rattle.ledger.specs.declared.Answer.{Answer}
@@ -33,7 +33,7 @@ use Rattle.posting.specs.Posting.{answerOf, rowOf}
 use Rattle.posting.proofs.Ledgers.{answer-back, row-back, row-account, posts, posts-row}
 use Rattle.readings.specs.Readings.{balanceOf, settledOf}
 use Rattle.readings.proofs.After.{balance-reading, settled-reading, is-balance, is-plan, is-service, is-settled, is-estimates}
-use Rattle.demand.specs.Calls.{Readings, Seen, Reads, Called, RunsFrom, Runs}
+use Rattle.demand.specs.Calls.{Readings, Seen, Reads, Called, RunsFrom}
 use Rattle.demand.specs.Demand3.{shows, codesIn, CallHolds, CallsHold, Demand3}
 
 -- ---- one call, from an account that stands for a ledger

@@ -9,7 +9,6 @@ use lib.ListN.{length, getD}
 use Rattle.terms.specs.Terms.{validTerms}
 use Rattle.terms.specs.declared.Terms.{Terms}
 use Rattle.ledger.specs.declared.Event.{Event}
-use Rattle.ledger.specs.declared.Answer.{Answer}
 use Rattle.ledger.specs.Event.{isDisconnect}
 use Rattle.ledger.specs.Entries.{usageDay, estimateCost}
 use Rattle.ledger.specs.Rules.{Ledger, dayRefused, isFull, MayCut}

@@ -3,6 +3,7 @@
 use mathlib.Core.Path.{_≡_, refl, ap, _∙_}
 use mathlib.Core.Bool.{true, false, _&&_, and-false}
 use mathlib.Core.List.{[], _∷_, _++_}
+use mathlib.Core.Option.{some}
 use Prim.Native.Nat.{ℕ, _+_, _-_, _≤_, _<_}
 use native.Mathlib.Omega.{arith}
 use lib.Dec.{eqb}
@@ -30,7 +31,7 @@ payment-stays n (x ∷ later) l h =
     simp f (payment-stays n later l h)
 
 -- the newest payment's number is how many came before it
-pub newest-is : (x : Entry) (l : Entries) → isPay (x .event) ≡ true → (paymentCount l < paymentCount (x ∷ l)) × (payment (x ∷ l) (paymentCount l) ≡ x)
+pub newest-is : (x : Entry) (l : Entries) → isPay (x .event) ≡ true → (paymentCount l < paymentCount (x ∷ l)) × (payment (x ∷ l) (paymentCount l) ≡ some x)
 unfolding payment paymentCount count find
 newest-is x l p = (simp p (omega arith), simp (p, eq-eqb (paymentCount l) (paymentCount l) refl))
 
@@ -50,7 +51,7 @@ unfolding payEffect reverseEffect planPart
 reversal-exact t l l′ e r later p v n s =
     let x : Entry = record { event = e; part = planPart t l (e .amount) } in
     let new = newest-is x (l .list) p in
-    let found : payment (l′ .list) (r .number) ≡ x = rw (n, s, paid t l e p) (payment-stays (paymentCount (l .list)) later (x ∷ l .list) (new .0) ∙ new .1) in
+    let found : payment (l′ .list) (r .number) ≡ some x = rw (n, s, paid t l e p) (payment-stays (paymentCount (l .list)) later (x ∷ l .list) (new .0) ∙ new .1) in
     let a : ℤ = pos (e .amount - planPart t l (e .amount)) in
     simp (paid t l e p, taken t l′ r v, found)
     (omega arith, +ℤ-assoc (l′ .balance) (negℤ a) (l .balance +ℤ a) ∙ ap (λ (z : ℤ). l′ .balance +ℤ z) (+ℤ-comm (negℤ a) (l .balance +ℤ a) ∙ +ℤ-negℤ-cancel (l .balance) a))

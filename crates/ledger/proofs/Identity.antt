@@ -4,7 +4,7 @@ use mathlib.Core.Path.{_≡_, refl, sym, ap, _∙_}
 use mathlib.Core.Bool.{Bool, true, false, cond, not, _&&_, _||_, or-true, and-false, true≢false}
 use mathlib.Core.List.{[], _∷_}
 use Prim.Native.Nat.{ℕ, _+_, _-_, _≤_, _<_}
-use native.Mathlib.Nat.{mul-le-mul-left, zero-mul}
+use native.Mathlib.Nat.{mul-le-mul-left}
 use native.Mathlib.Omega.{arith}
 use lib.Dec.{leb, eqb}
 use lib.IntN.{pos, _+ℤ_, _-ℤ_, +ℤ-idr}
@@ -14,7 +14,7 @@ use Rattle.terms.specs.declared.Terms.{Terms}
 use Rattle.terms.specs.Terms.{validTerms}
 use Rattle.ledger.specs.declared.Event.{Event}
 use Rattle.ledger.specs.Event.{isPay, isReverse, isCredit, isCharge, isEstimate, isRead, isPlan, isDisconnect, isConnect}
-use Rattle.ledger.specs.Entries.{usageCost, Entry, Entries, any, count, sum, sumOf, amountOf, find, lastDay, paymentCount, hasNumber, payment, reversed, priceOn, UsageDay, readOn, estimateOn, whOn, usageDay, isBlank, isMetered, estimateCost}
+use Rattle.ledger.specs.Entries.{usageCost, Entry, Entries, any, count, sum, sumOf, amountOf, find, orZero, paidAmount, paidPart, lastDay, paymentCount, hasNumber, payment, reversed, priceOn, UsageDay, readOn, estimateOn, whOn, usageDay, isBlank, isMetered, estimateCost}
 use Rattle.ledger.specs.Sums.{keptTotal, creditTotal, chargeTotal, readCost, settled, standingCost}
 use Rattle.ledger.specs.Rules.{Ledger, mayDefer, refusals}
 use Rattle.ledger.specs.Ledger.{opening, Effect, planPart, payEffect, reverseEffect, balanceEffect, serviceEffect, estimateEffect, readEffect, deferred, planEffect, effectOf, joined, accepts, ledgerStep}
@@ -86,15 +86,12 @@ unfolding count sum
 count-weighs p [] = refl
 count-weighs p (x ∷ l) = omega (arith, count-weighs p l)
 
-nothing-costs : (p : ℕ) → costOf 0 p ≡ 0
-unfolding costOf
-nothing-costs p = simp zero-mul
-
 -- the cost of the one estimate of day u
 found-costs : (price : ℕ → ℕ) (u : ℕ) (l : Entries)
-    → let e = find (λ x b. estimateOn u (x .event)) l .event in costOf (e .wh) (price (e .usage)) ≡ cond (any (estimateOn u) l) (costOf (e .wh) (price u)) 0
+    → orZero (λ x. costOf (x .event .wh) (price (x .event .usage))) (find (λ x b. estimateOn u (x .event)) l)
+    ≡ cond (any (estimateOn u) l) (costOf (whOn l estimateOn u) (price u)) 0
 unfolding find any
-found-costs price u [] = nothing-costs (price 0)
+found-costs price u [] = refl
 found-costs price u (x ∷ l) = decide (estimateOn u (x .event))
     (λ t. simp t (ap (λ (v : ℕ). costOf (x .event .wh) (price v)) (eqb-true (x .event .usage) u (both (isEstimate (x .event)) (eqb (x .event .usage) u) t .1))))
     (λ f. simp f (found-costs price u l))
@@ -129,7 +126,7 @@ module _ (t : Terms) (l : Entries) (x : Entry) (past : All (UsedBefore (x .event
 pub replaced : (t : Terms) (l : Entries) (u : ℕ) → count (estimateOn u) l ≤ 1 → any (readOn u) l ≡ false
     → sumOf (λ y b. isEstimate (y .event) && eqb (y .event .usage) u) (λ y. usageCost t l (y .event)) l ≡ estimateCost (usageDay t l u)
 replaced t l u h f =
-    one-weighs (λ y b. estimateOn u (y .event)) (λ y. usageCost t l (y .event)) (nothing-costs (priceOn t l 0)) l (omega (arith, count-weighs (estimateOn u) l))
+    one-weighs (λ y b. estimateOn u (y .event)) (λ y. usageCost t l (y .event)) l (omega (arith, count-weighs (estimateOn u) l))
     ∙ found-costs (priceOn t l) u l
     ∙ sym (estimate-cost-is t l u f)
 
@@ -142,7 +139,7 @@ inflow t l e = cond (isPay e) (e .amount) 0 + cond (isCredit e) (e .amount) 0 + 
 
 outflow : Terms → Ledger → Event → ℕ
 outflow t l e =
-    cond (isReverse e) (payment (l .list) (e .number) .event .amount) 0
+    cond (isReverse e) (paidAmount (l .list) (e .number)) 0
     + cond (isCharge e) (e .amount) 0
     + cond (isEstimate e) (usageCost t (l .list) e) 0
     + cond (isRead e) (usageCost t (l .list) e) 0
@@ -193,7 +190,7 @@ module _ (t : Terms) (l : Ledger) (e : Event) (p : ℕ) (s : Invariant t l) (a :
   unreversed : reversed (l .list) (paymentCount (l .list)) ≡ false
   unreversed = decide (reversed (l .list) (paymentCount (l .list))) (λ r. absurd (omega (arith, s .numbers _ r))) (λ f. f)
 
-  kept-then : keptTotal (entryOf e p ∷ l .list) + cond (isReverse e) (payment (l .list) (e .number) .event .amount) 0
+  kept-then : keptTotal (entryOf e p ∷ l .list) + cond (isReverse e) (paidAmount (l .list) (e .number)) 0
       ≡ keptTotal (l .list) + cond (isPay e) (e .amount) 0
   unfolding keptTotal sum reversed any payment refusals
   kept-then = decide (isReverse e)
@@ -202,7 +199,7 @@ module _ (t : Terms) (l : Ledger) (e : Event) (p : ℕ) (s : Invariant t l) (a :
       simp (r, i) (omega (
         arith,
         take-out (λ y. isPay (y .event)) (λ y b. paymentCount b) (λ y. y .event .amount) (λ n. reversed (l .list) n) (e .number) f (l .list),
-        one-weighs (hasNumber (e .number)) (λ y. y .event .amount) refl (l .list) (given-once (e .number) (l .list)),
+        one-weighs (hasNumber (e .number)) amountOf (l .list) (given-once (e .number) (l .list)),
       )))
       (λ r. decide (isPay e)
       (λ i. simp (r, i, unreversed) (omega arith))
@@ -241,7 +238,7 @@ module _ (t : Terms) (l : Ledger) (e : Event) (s : Invariant t l) (a : Accepted 
 
   reverse-fits : e .sort ≡ 2 → Fits t l e (reverseEffect l e)
   unfolding reverseEffect inflow outflow
-  reverse-fits k = settle (reverseEffect l e) 0 (payment (l .list) (e .number) .event .amount - payment (l .list) (e .number) .part) (simp +ℤ-idr) (rw k (omega (arith, s .parts (e .number)))) (omega arith)
+  reverse-fits k = settle (reverseEffect l e) 0 (paidAmount (l .list) (e .number) - paidPart (l .list) (e .number)) (simp +ℤ-idr) (rw k (omega (arith, s .parts (e .number)))) (omega arith)
 
   credit-fits : e .sort ≡ 3 → Fits t l e (balanceEffect l 0 (l .balance +ℤ pos (e .amount)))
   unfolding inflow outflow
@@ -308,7 +305,7 @@ module _ (t : Terms) (l : Ledger) (e : Event) (s : Invariant t l) (a : Accepted 
       omega (arith, given, eqb-true (e .number) n (b .1)))
       (λ f. omega (arith, s .numbers n (simp f at r)))
 
-  parts-then : (p n : ℕ) → p ≤ e .amount → payment (entryOf e p ∷ l .list) n .part ≤ payment (entryOf e p ∷ l .list) n .event .amount
+  parts-then : (p n : ℕ) → p ≤ e .amount → paidPart (entryOf e p ∷ l .list) n ≤ paidAmount (entryOf e p ∷ l .list) n
   unfolding payment find
   parts-then p n h = decide (hasNumber n (entryOf e p) (l .list)) (λ y. simp y h) (λ f. simp f (s .parts n))
 

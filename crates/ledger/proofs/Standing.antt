@@ -1,19 +1,19 @@
 -- The standing estimates cost nothing exactly when each usage day's does.
 -- Assumes nothing.
-use mathlib.Core.Path.{_≡_, refl, sym, ap, _∙_}
-use mathlib.Core.Bool.{Bool, true, false, cond, not, _&&_, _||_, true≢false}
+use mathlib.Core.Path.{_≡_, refl, sym, _∙_}
+use mathlib.Core.Bool.{Bool, true, false, cond, not, _&&_, true≢false}
 use mathlib.Core.List.{[], _∷_}
 use mathlib.Core.Logic.{_↔_}
-use Prim.Native.Nat.{ℕ, _+_, _≤_}
+use Prim.Native.Nat.{ℕ}
 use native.Mathlib.Omega.{arith}
 use lib.Dec.{eqb}
 use borrow.Author.Tests.{eq-eqb}
 use Rattle.terms.specs.declared.Terms.{Terms}
 use Rattle.ledger.specs.Event.{isEstimate}
-use Rattle.ledger.specs.Entries.{Entry, Entries, any, sum, sumOf, readOn, estimateOn, usageDay, estimateCost, usageCost}
+use Rattle.ledger.specs.Entries.{Entry, Entries, any, sum, sumOf, readOn, usageDay, estimateCost, usageCost}
 use Rattle.ledger.specs.Rules.{Ledger}
 use Rattle.ledger.specs.Sums.{standingCost}
-use Rattle.ledger.proofs.Cases.{decide, both}
+use Rattle.ledger.proofs.Cases.{decide}
 use Rattle.ledger.specs.Invariant.{All, Invariant}
 use Rattle.ledger.proofs.Weights.{all-map, take-out}
 use Rattle.ledger.proofs.Identity.{replaced}

@@ -8,7 +8,7 @@ use native.Mathlib.Omega.{arith}
 use lib.Dec.{eqb}
 use borrow.Author.Tests.{eqb-true, eqb-false, eq-eqb, ne-eqb}
 use Rattle.ledger.specs.Event.{isPay}
-use Rattle.ledger.specs.Entries.{Entry, Entries, count, sum, sumOf, noEntry, find, paymentCount, hasNumber}
+use Rattle.ledger.specs.Entries.{Entry, Entries, count, sum, sumOf, find, orZero, paymentCount, hasNumber}
 use Rattle.ledger.specs.Invariant.{All}
 use Rattle.ledger.proofs.Cases.{decide, both}
 
@@ -47,12 +47,12 @@ none-weighs m w (x ∷ l) z = decide (m x l)
     (λ t. absurd (omega (arith, simp t at z)))
     (λ f. simp f (omega (arith, none-weighs m w l (omega (arith, simp f at z)))))
 
-pub one-weighs : (m : Entry → Entries → Bool) (w : Entry → ℕ) → w noEntry ≡ 0 → (l : Entries) → sumOf m (λ x. 1) l ≤ 1 → sumOf m w l ≡ w (find m l)
+pub one-weighs : (m : Entry → Entries → Bool) (w : Entry → ℕ) (l : Entries) → sumOf m (λ x. 1) l ≤ 1 → sumOf m w l ≡ orZero w (find m l)
 unfolding sum find
-one-weighs m w z [] h = sym z
-one-weighs m w z (x ∷ l) h = decide (m x l)
+one-weighs m w [] h = refl
+one-weighs m w (x ∷ l) h = decide (m x l)
     (λ t. simp t (omega (arith, none-weighs m w l (omega (arith, simp t at h)))))
-    (λ f. simp f (omega (arith, one-weighs m w z l (omega (arith, simp f at h)))))
+    (λ f. simp f (omega (arith, one-weighs m w l (omega (arith, simp f at h)))))
 
 -- a number not given yet has no payment, and every number one at the most
 not-given : (n : ℕ) (l : Entries) → paymentCount l ≤ n → sumOf (hasNumber n) (λ x. 1) l ≡ 0

@@ -2,6 +2,7 @@
 use Prim.Native.Nat.{ℕ, suc, _+_}
 use mathlib.Core.Bool.{Bool, true, false, cond, not, _&&_, _||_}
 use mathlib.Core.List.{List, [], _∷_}
+use mathlib.Core.Option.{Option, none, some}
 use lib.Dec.{ltb, leb, eqb}
 use Rattle.calendar.specs.Calendar.{dateOn, weekdayOf}
 use Rattle.calendar.specs.Days.{anyDay, countDays}
@@ -40,17 +41,15 @@ sumOf p f l = sum (λ (x : Entry) (before : Entries). cond (p x before) (f x) 0)
 abbrev pub amountOf : Entry → ℕ
 amountOf x = x .event .amount
 
--- no entry: what is found where there is none
-abbrev pub noEntry : Entry
-noEntry = record {
-  event = record { sort = 0; day = 0; amount = 0; number = 0; kind = 0; usage = 0; wh = 0; from = 0; to = 0 };
-  part = 0;
-}
-
 -- The newest entry that f picks, each with those accepted before it. (Every use picks one at the most.)
-unfoldable pub find : (Entry → Entries → Bool) → Entries → Entry
-find f [] = noEntry
-find f (x ∷ l) = cond (f x l) x (find f l)
+unfoldable pub find : (Entry → Entries → Bool) → Entries → Option Entry
+find f [] = none
+find f (x ∷ l) = cond (f x l) (some x) (find f l)
+
+-- f of what is found; 0 where there is nothing
+abbrev pub orZero : (Entry → ℕ) → Option Entry → ℕ
+orZero f none = 0
+orZero f (some x) = f x
 
 -- "the last event's day (0 while L is empty)"
 unfoldable pub lastDay : Entries → ℕ
@@ -65,8 +64,18 @@ paymentCount l = count isPay l
 abbrev pub hasNumber : ℕ → Entry → Entries → Bool
 hasNumber n x before = isPay (x .event) && eqb (paymentCount before) n
 
-unfoldable pub payment : Entries → ℕ → Entry
+unfoldable pub payment : Entries → ℕ → Option Entry
 payment l n = find (hasNumber n) l
+
+-- its day, its amount, and what of it went to the plan
+abbrev pub paidOn : Entries → ℕ → ℕ
+paidOn l n = orZero (λ (x : Entry). x .event .day) (payment l n)
+
+abbrev pub paidAmount : Entries → ℕ → ℕ
+paidAmount l n = orZero amountOf (payment l n)
+
+abbrev pub paidPart : Entries → ℕ → ℕ
+paidPart l n = orZero (λ (x : Entry). x .part) (payment l n)
 
 -- "reversed if L has a reverse of it"
 unfoldable pub reversed : Entries → ℕ → Bool
@@ -105,7 +114,7 @@ estimateOn u e = isEstimate e && eqb (e .usage) u
 
 -- the Wh of the event on usage day u that p picks
 abbrev pub whOn : Entries → (ℕ → Event → Bool) → ℕ → ℕ
-whOn l p u = find (λ (x : Entry) (before : Entries). p u (x .event)) l .event .wh
+whOn l p u = orZero (λ (x : Entry). x .event .wh) (find (λ (x : Entry) (before : Entries). p u (x .event)) l)
 
 unfoldable pub usageDay : Terms → Entries → ℕ → UsageDay
 usageDay t l u =

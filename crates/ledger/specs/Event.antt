@@ -1,6 +1,6 @@
 -- The events and the limits of their fields (document 01, "Events"). The bold words are numbered in the paper's order.
 use Prim.Native.Nat.{ℕ}
-use mathlib.Core.Bool.{Bool, true, false, cond, _&&_, _||_}
+use mathlib.Core.Bool.{Bool, cond, _&&_, _||_}
 use lib.Dec.{leb, eqb}
 use Rattle.calendar.specs.Calendar.{finalDay}
 use Rattle.terms.specs.Terms.{within}

@@ -6,7 +6,7 @@ use mathlib.Core.List.{[], _∷_}
 use lib.IntN.{pos, _-ℤ_}
 use Rattle.terms.specs.declared.Terms.{Terms}
 use Rattle.ledger.specs.Event.{isEstimate, isRead}
-use Rattle.ledger.specs.Entries.{Entry, Entries, count, lastDay, paymentCount, payment, reversed, estimateOn}
+use Rattle.ledger.specs.Entries.{Entry, Entries, count, lastDay, paymentCount, paidAmount, paidPart, reversed, estimateOn}
 use Rattle.ledger.specs.Sums.{keptTotal, creditTotal, chargeTotal, readCost, standingCost}
 use Rattle.ledger.specs.Rules.{Ledger}
 
@@ -28,7 +28,7 @@ pub record Invariant (t : Terms) (l : Ledger) : Type 0 where
   -- only a payment that was made is reversed
   pub numbers : (n : ℕ) → reversed (l .list) n ≡ true → n < paymentCount (l .list)
   -- what of a payment went to the plan is at most its amount
-  pub parts : (n : ℕ) → payment (l .list) n .part ≤ payment (l .list) n .event .amount
+  pub parts : (n : ℕ) → paidPart (l .list) n ≤ paidAmount (l .list) n
   -- a usage day is estimated once at most
   pub once : (u : ℕ) → count (estimateOn u) (l .list) ≤ 1
   -- "u ≥ x" is refused: usage days are before the last day

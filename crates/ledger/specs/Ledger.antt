@@ -8,7 +8,7 @@ use Rattle.terms.specs.declared.Terms.{Terms}
 use Rattle.ledger.specs.declared.Event.{Event}
 use Rattle.ledger.specs.declared.Answer.{Answer}
 use Rattle.ledger.specs.Event.{isPay, isReverse, isCredit, isCharge, isEstimate, isRead, isPlan, isDisconnect, isConnect}
-use Rattle.ledger.specs.Entries.{Entry, paymentCount, payment, usageCost, usageDay, estimateCost}
+use Rattle.ledger.specs.Entries.{paymentCount, paidAmount, paidPart, usageCost, usageDay, estimateCost}
 use Rattle.ledger.specs.Rules.{Ledger, refusals, firstOf}
 
 -- "At first L is empty, B and R are 0, service is off."
@@ -39,8 +39,8 @@ payEffect t l e =
 -- "The payment's own two parts are taken back: B falls, R rises."
 unfoldable pub reverseEffect : Ledger → Event → Effect
 reverseEffect l e =
-    let p : Entry = payment (l .list) (e .number) in
-    effect 0 0 (l .balance -ℤ pos (p .event .amount - p .part)) (l .plan + p .part) (l .on)
+    let part : ℕ = paidPart (l .list) (e .number) in
+    effect 0 0 (l .balance -ℤ pos (paidAmount (l .list) (e .number) - part)) (l .plan + part) (l .on)
 
 -- of B alone
 abbrev pub balanceEffect : Ledger → ℕ → ℤ → Effect

@@ -1,7 +1,7 @@
 -- The month summary over L (document 01, "Month summary").
-use Prim.Native.Nat.{ℕ, suc, _+_, _*_, _/_}
+use Prim.Native.Nat.{ℕ, _+_, _*_, _/_}
 use mathlib.Core.Bool.{Bool, false, cond, _&&_}
-use mathlib.Core.List.{List, [], _∷_}
+use mathlib.Core.List.{[], _∷_}
 use lib.Dec.{eqb}
 use Rattle.calendar.specs.Calendar.{dateOn, monthFrom, total, dayCount}
 use Rattle.calendar.specs.Days.{anyDay}

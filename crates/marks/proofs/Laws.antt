@@ -13,8 +13,6 @@ use borrow.Author.Tests.{ltb-true, ltb-false, leb-true, leb-false, eqb-true, eqb
 use Rattle.calendar.specs.Days.{anyDay, countDays}
 use Rattle.calendar.proofs.Sums.{decide}
 use Rattle.marks.specs.Marks.{isMissing, markBit, markRange, latestOf, dayBefore, businessLeft, nearOf, marked, latestWarning, weatherNear}
-use Rattle.marks.specs.declared.Found.{Found}
-use Rattle.marks.specs.declared.Found.the-variants.{At, Missing}
 
 -- ---- setting a mark
 

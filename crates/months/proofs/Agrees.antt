@@ -5,6 +5,7 @@ use native.Mathlib.Omega.{arith}
 use mathlib.Core.Path.{_≡_, refl, sym, _∙_}
 use mathlib.Core.Bool.{Bool, true, false, not, _&&_, or-true, true≢false}
 use mathlib.Core.List.{List}
+use mathlib.Core.Option.{Option, some}
 use lib.ListN.{getD}
 use lib.Dec.{ltb, leb}
 use borrow.Author.Tests.{le-leb, leb-true, leb-false, ne-eqb}
@@ -16,7 +17,7 @@ use Rattle.terms.specs.declared.Terms.{Terms}
 use Rattle.ledger.specs.declared.Event.{Event}
 use Rattle.ledger.specs.declared.Summary.{Summary}
 use Rattle.ledger.specs.Event.{isPay}
-use Rattle.ledger.specs.Entries.{Entry, Entries, amountOf, paymentCount, payment, reversed, UsageDay, blank, estimated, metered, usageDay, estimateCost}
+use Rattle.ledger.specs.Entries.{Entry, Entries, amountOf, orZero, paymentCount, payment, paidOn, reversed, UsageDay, blank, estimated, metered, usageDay, estimateCost}
 use Rattle.ledger.specs.Rules.{Ledger}
 use Rattle.ledger.specs.Ledger.{ledgerOf}
 use Rattle.ledger.specs.Months.{monthOf, inMonth, hasDays, paymentsIn, usageIn, meteredWh, meteredCost, estimatedWh, chargesIn, noSummary, ledgerSummary}
@@ -60,15 +61,15 @@ module _ (t : Terms) (m : ℕ) (o : opens (t .opened) ≡ true) where
   month-small y = decide (leb m 14) (leb-true m 14) (λ f. absurd (true≢false (sym y ∙ any-none _ 400 (λ k h. late k h (leb-false m 14 f)))))
 
   module _ (a : Account) (l : Ledger) (g : Agree t a l) (d : Dated (l .list)) where
-    paid : (p : Payment → Bool) (q : ℕ → Bool) (f : Payment → ℕ) (w : Entry → ℕ)
+    paid : (p : Payment → Bool) (q : ℕ → Bool) (f : Payment → ℕ) (w : Option Entry → ℕ)
         → ((n : ℕ) → p (recordedPayment (l .list) n) ≡ q n) → ((n : ℕ) → f (recordedPayment (l .list) n) ≡ w (payment (l .list) n))
         → paymentsBy (inMonthOf (t .opened) m) p f (a .payments) (a .totals .count)
-        ≡ paymentsIn t (l .list) m (λ (x : Entry) (before : Entries). isPay (x .event) && q (paymentCount before)) w
+        ≡ paymentsIn t (l .list) m (λ (x : Entry) (before : Entries). isPay (x .event) && q (paymentCount before)) (λ (x : Entry). w (some x))
     unfolding paymentsBy paymentsIn
     paid p q f w i h =
         rw (g .sums .count)
-        (total-same _ _ (paymentCount (l .list)) (λ n b. rw (g .kept .payments n b, in-month (payment (l .list) n .event .day) (d n), i n, h n))
-        ∙ sym (by-number (λ (x : Entry). inMonth t m (x .event .day)) q w (l .list)))
+        (total-same _ _ (paymentCount (l .list)) (λ n b. rw (g .kept .payments n b, in-month (paidOn (l .list) n) (d n), i n, h n))
+        ∙ sym (by-number (λ (x : Option Entry). inMonth t m (orZero (λ (y : Entry). y .event .day) x)) q w (l .list)))
 
     used : (f : Usage → ℕ) (w : UsageDay → ℕ) → ((u : UsageDay) → f (recordedUsage u) ≡ w u)
         → usageBy (inMonthOf (t .opened) m) f (a .days) 400 ≡ usageIn t (l .list) m w
@@ -117,7 +118,7 @@ module _ (t : Terms) (m : ℕ) (o : opens (t .opened) ≡ true) where
     unfolding summaryBy ledgerSummary
     summary-is = rw (is-account t a l g, g .terms, has-days) (decide (hasDays t m)
         (λ y. let h : m ≤ 14 = month-small y in
-        rw (y, first h, charge 1 h (omega arith), charge 2 h (omega arith), charge 3 h (omega arith), charge 4 h (omega arith), small 1, small 2, paid heldKept live one (λ (x : Entry). 1) (λ n. refl) (λ n. refl), paid heldKept live heldAmount amountOf (λ n. refl) (λ n. refl), paid heldReversed back one (λ (x : Entry). 1) (λ n. refl) (λ n. refl), paid heldReversed back heldAmount amountOf (λ n. refl) (λ n. refl), used whMetered meteredWh wh-metered, used costMetered meteredCost cost-metered, used whEstimated estimatedWh wh-estimated, used costHeld estimateCost cost-estimated))
+        rw (y, first h, charge 1 h (omega arith), charge 2 h (omega arith), charge 3 h (omega arith), charge 4 h (omega arith), small 1, small 2, paid heldKept live one (λ (x : Option Entry). 1) (λ n. refl) (λ n. refl), paid heldKept live heldAmount (orZero amountOf) (λ n. refl) (λ n. refl), paid heldReversed back one (λ (x : Option Entry). 1) (λ n. refl) (λ n. refl), paid heldReversed back heldAmount (orZero amountOf) (λ n. refl) (λ n. refl), used whMetered meteredWh wh-metered, used costMetered meteredCost cost-metered, used whEstimated estimatedWh wh-estimated, used costHeld estimateCost cost-estimated))
         (λ f. rw f))
 
 -- The summary of an account that this software made is the ledger's of the same events.

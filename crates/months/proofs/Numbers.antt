@@ -6,11 +6,12 @@ use native.Mathlib.Numerals.{add-one}
 use mathlib.Core.Path.{_≡_, refl}
 use mathlib.Core.Bool.{Bool, true, false, cond, _&&_, and-false}
 use mathlib.Core.List.{List, [], _∷_}
+use mathlib.Core.Option.{Option, some}
 use Rattle.calendar.specs.Calendar.{total}
 use Rattle.terms.specs.declared.Terms.{Terms}
 use Rattle.ledger.specs.declared.Event.{Event}
 use Rattle.ledger.specs.Event.{isPay}
-use Rattle.ledger.specs.Entries.{Entry, Entries, count, sum, sumOf, find, paymentCount, payment, hasNumber}
+use Rattle.ledger.specs.Entries.{Entry, Entries, count, sum, sumOf, find, paymentCount, payment, paidOn, hasNumber}
 use Rattle.ledger.specs.Rules.{Ledger}
 use Rattle.ledger.specs.Ledger.{opening, effectOf, accepts, ledgerStep, ledgerAfter}
 use Rattle.ledger.proofs.Cases.{decide}
@@ -18,14 +19,14 @@ use Rattle.ledger.proofs.Accepted.{accepted-by}
 use Rattle.refinement.proofs.Fields.{payments-same, payments-one, payment-same, payment-old, payment-new}
 use Rattle.months.proofs.Sums.{total-same}
 
-module _ (r : Entry → Bool) (q : ℕ → Bool) (f : Entry → ℕ) where
+module _ (r : Option Entry → Bool) (q : ℕ → Bool) (f : Option Entry → ℕ) where
   -- what payment n comes to
   abbrev part : Entries → ℕ → ℕ
   part l n = cond (r (payment l n) && q n) (f (payment l n)) 0
 
   -- what the payments of L come to
   abbrev all : Entries → ℕ
-  all l = sumOf (λ (x : Entry) (before : Entries). r x && (isPay (x .event) && q (paymentCount before))) f l
+  all l = sumOf (λ (x : Entry) (before : Entries). r (some x) && (isPay (x .event) && q (paymentCount before))) (λ (x : Entry). f (some x)) l
 
   paid : (x : Entry) (l : Entries) → isPay (x .event) ≡ true → all l ≡ total (part l) (paymentCount l) → all (x ∷ l) ≡ total (part (x ∷ l)) (paymentCount (x ∷ l))
   unfolding sum total
@@ -47,7 +48,7 @@ module _ (r : Entry → Bool) (q : ℕ → Bool) (f : Entry → ℕ) where
 -- ---- the days of payments
 
 abbrev pub Dated : Entries → Type 0
-Dated l = (n : ℕ) → payment l n .event .day ≤ 399
+Dated l = (n : ℕ) → paidOn l n ≤ 399
 
 dated-step : (t : Terms) (l : Ledger) (e : Event) → Dated (l .list) → Dated (ledgerStep t l e .ledger .list)
 unfolding ledgerStep payment find

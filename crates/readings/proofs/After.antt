@@ -1,14 +1,11 @@
 -- What is read off the totals of an account that stands for a ledger is the ledger's.
 -- Assumes nothing.
 use mathlib.Core.Path.{_≡_, refl, sym, ap, _∙_}
-use mathlib.Core.Bool.{Bool}
-use mathlib.Core.List.{List}
-use Prim.Native.Nat.{ℕ, _+_, _*_, _≤_}
+use Prim.Native.Nat.{ℕ, _+_}
 use native.Mathlib.Omega.{arith}
 use lib.IntN.{ℤ, pos, _+ℤ_, _-ℤ_}
 use borrow.Author.Tests.{le-leb}
 use Rattle.terms.specs.declared.Terms.{Terms}
-use Rattle.ledger.specs.declared.Event.{Event}
 use Rattle.ledger.specs.Rules.{Ledger}
 use Rattle.ledger.specs.Ledger.{ledgerOf}
 use Rattle.ledger.specs.Sums as sums
@@ -16,7 +13,6 @@ use Rattle.ledger.proofs.Money.{diff, diff-add, diff-sub}
 use Rattle.ledger.proofs.Identity.{settled-is}
 use Rattle.moves.specs.declared.Totals.{Totals}
 use Rattle.account.specs.declared.Account.{Account}
-use Rattle.refinement.specs.Lists.{Made}
 use Rattle.refinement.specs.Agree.{Sums, Bounds, Stands}
 use Rattle.refinement.proofs.Lists.{made-stands}
 use Rattle.readings.specs.Readings.{balanceOf, settledOf, IsReading, IsBalance, IsPlan, IsService, IsSettled, IsEstimates}

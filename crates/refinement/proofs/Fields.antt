@@ -1,24 +1,21 @@
 -- What one more entry changes of what is read off L, and what it leaves.
 -- Assumes nothing.
-use Prim.Native.Nat.{ℕ, zero, suc, _+_, _*_, _-_, _≤_, _<_}
+use Prim.Native.Nat.{ℕ, _+_, _≤_}
 use native.Mathlib.Omega.{arith}
-use native.Mathlib.Numerals.{add-one}
-use mathlib.Core.Path.{_≡_, refl, sym, ap, _∙_}
-use mathlib.Core.Bool.{Bool, true, false, cond, not, _&&_, _||_}
-use mathlib.Core.List.{List, [], _∷_}
-use lib.ListN.{length, getD, set}
-use lib.Seq.{getD-set-same, getD-set-other}
-use lib.Dec.{ltb, leb, eqb}
-use borrow.Author.Tests.{eq-eqb, ne-eqb, eqb-true, eqb-false}
+use mathlib.Core.Path.{_≡_, refl}
+use mathlib.Core.Bool.{Bool, true, false, cond, _&&_, _||_}
+use mathlib.Core.List.{_∷_}
+use mathlib.Core.Option.{some}
+use lib.Dec.{leb, eqb}
+use borrow.Author.Tests.{eq-eqb, ne-eqb}
 use Rattle.tariff.specs.Tariff.{costOf}
 use Rattle.terms.specs.declared.Terms.{Terms}
 use Rattle.ledger.specs.declared.Event.{Event}
 use Rattle.ledger.specs.Event.{isPay, isReverse, isCharge, isEstimate, isRead, isWarn, isMark}
-use Rattle.ledger.specs.Entries.{Entry, Entries, any, count, sum, find, noEntry, paymentCount, payment, hasNumber, reversed, UsageDay, blank, estimated, metered, usageDay, readOn, estimateOn, whOn, priceOn, covered}
+use Rattle.ledger.specs.Entries.{Entries, any, count, sum, find, paidAmount, paymentCount, payment, hasNumber, reversed, estimated, metered, usageDay, readOn, estimateOn, whOn, priceOn, covered}
 use Rattle.ledger.specs.Months.{chargesIn, monthOf}
 use Rattle.ledger.proofs.Cases.{decide, both}
-use Rattle.account.specs.Record.{blankDay, noPayment, costHeld}
-use Rattle.refinement.specs.Agree.{recordedUsage, recordedPayment, recordedMarks, warnedOn}
+use Rattle.refinement.specs.Agree.{warnedOn}
 
 module _ (e : Event) (p : ℕ) (l : Entries) where
   abbrev pub more : Entries
@@ -40,11 +37,11 @@ module _ (e : Event) (p : ℕ) (l : Entries) where
   unfolding payment find
   payment-old n h = decide (isPay e) (λ t. simp (t, ne-eqb (paymentCount l) n h)) (λ f. simp f)
 
-  pub payment-new : isPay e ≡ true → payment more (paymentCount l) ≡ record { event = e; part = p }
+  pub payment-new : isPay e ≡ true → payment more (paymentCount l) ≡ some (record { event = e; part = p })
   unfolding payment find
   payment-new t = simp (t, eq-eqb (paymentCount l) (paymentCount l) refl)
 
-  pub amount-limit : (n k : ℕ) → (isPay e ≡ true → e .amount ≤ k) → payment l n .event .amount ≤ k → payment more n .event .amount ≤ k
+  pub amount-limit : (n k : ℕ) → (isPay e ≡ true → e .amount ≤ k) → paidAmount l n ≤ k → paidAmount more n ≤ k
   unfolding payment find
   amount-limit n k h g = decide (hasNumber n (record { event = e; part = p }) l)
       (λ t. simp t (h (both (isPay e) (eqb (paymentCount l) n) t .0)))
@@ -60,11 +57,11 @@ module _ (e : Event) (p : ℕ) (l : Entries) where
 
   wh-same : (q : ℕ → Event → Bool) (u : ℕ) → q u e ≡ false → whOn more q u ≡ whOn l q u
   unfolding find
-  wh-same q u f = ap (λ (b : Bool). cond b (record { event = e; part = p }) (find (λ (y : Entry) (before : Entries). q u (y .event)) l) .event .wh) f
+  wh-same q u f = rw f
 
   wh-new : (q : ℕ → Event → Bool) (u : ℕ) → q u e ≡ true → whOn more q u ≡ e .wh
   unfolding find
-  wh-new q u t = ap (λ (b : Bool). cond b (record { event = e; part = p }) (find (λ (y : Entry) (before : Entries). q u (y .event)) l) .event .wh) t
+  wh-new q u t = rw t
 
   pub usage-same : (t : Terms) (u : ℕ) → estimateOn u e ≡ false → readOn u e ≡ false → usageDay t more u ≡ usageDay t l u
   unfolding usageDay any priceOn

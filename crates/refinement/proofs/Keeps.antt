@@ -1,31 +1,27 @@
 -- What is kept by payment, usage day, day and month after one more entry: unchanged, or with the event's own change.
 -- Assumes nothing.
-use Prim.Native.Nat.{ℕ, zero, suc, _+_, _*_, _-_, _≤_, _<_}
+use Prim.Native.Nat.{ℕ, suc, _+_, _*_, _-_, _≤_, _<_}
 use native.Mathlib.Omega.{arith}
 use mathlib.Core.Path.{_≡_, refl, sym, ap, _∙_, subst}
-use mathlib.Core.Bool.{Bool, true, false, cond, not, _&&_, _||_, and-false, and-true, true≢false}
-use mathlib.Core.List.{List, [], _∷_}
-use mathlib.Core.Logic.{inl, inr}
+use mathlib.Core.Bool.{Bool, true, false, cond, _&&_, and-false, and-true, true≢false}
+use mathlib.Core.Logic.{inl}
 use lib.ListN.{length, getD, set}
 use lib.Seq.{getD-set-same, getD-set-other}
-use lib.Dec.{ltb, leb, eqb}
-use lib.Bits.{bitOr}
-use borrow.Author.Tests.{eq-eqb, ne-eqb, eqb-true, eqb-false}
-use Rattle.calendar.specs.Calendar.{monthOn, isDay, opens}
-use Rattle.tariff.specs.Tariff.{costOf}
+use lib.Dec.{leb, eqb}
+use borrow.Author.Tests.{eq-eqb, eqb-true, eqb-false}
+use Rattle.calendar.specs.Calendar.{monthOn}
 use Rattle.terms.specs.declared.Terms.{Terms}
-use Rattle.marks.specs.Marks.{marked, markBit}
+use Rattle.marks.specs.Marks.{marked}
 use Rattle.marks.proofs.Laws.{marked-at, byte-or}
 use Rattle.ledger.specs.declared.Event.{Event}
 use Rattle.ledger.specs.Event.{isPay, isReverse, isCharge, isEstimate, isRead, isWarn, isMark, inLimits}
-use Rattle.ledger.specs.Entries.{Entry, Entries, any, paymentCount, payment, reversed, UsageDay, blank, estimated, metered, usageDay, readOn, estimateOn, covered}
+use Rattle.ledger.specs.Entries.{Entries, any, paymentCount, paidOn, paidAmount, paidPart, reversed, UsageDay, usageDay, readOn, estimateOn, covered}
 use Rattle.ledger.specs.Months.{chargesIn, monthOf}
 use Rattle.ledger.proofs.Cases.{decide, both}
 use Rattle.account.specs.Record.{blankDay, noPayment, costHeld}
 use Rattle.account.specs.declared.Account.{Account}
 use Rattle.moves.specs.declared.Payment.{Payment}
 use Rattle.moves.specs.declared.Day.{Day}
-use Rattle.moves.specs.declared.Usage.the-variants.{Blank, Estimated, Metered}
 use Rattle.moves.proofs.Cost.{cost-limit}
 use Rattle.moves.proofs.Early.{amount-limits, charge-limits, usage-limits}
 use Rattle.refinement.specs.Agree.{Kept, recordedUsage, recordedPayment, recordedMarks, warnedOn}
@@ -33,7 +29,7 @@ use Rattle.refinement.proofs.Fields as F
 
 -- ---- the fields that hold a limit, whatever the sort
 module _ (t : Terms) (e : Event) (p : ℕ) (l : Entries) (h : inLimits e ≡ true) where
-  pub amounts-keep : ((n : ℕ) → payment l n .event .amount ≤ 10000000) → (n : ℕ) → payment (F.more e p l) n .event .amount ≤ 10000000
+  pub amounts-keep : ((n : ℕ) → paidAmount l n ≤ 10000000) → (n : ℕ) → paidAmount (F.more e p l) n ≤ 10000000
   amounts-keep k n = F.amount-limit e p l n 10000000 (λ y. amount-limits e (inl (eqb-true (e .sort) 1 y)) h .most) (k n)
 
   pub charged-keep : ((m k : ℕ) → chargesIn t l m k ≤ length l * 10000000) → (m k : ℕ) → chargesIn t (F.more e p l) m k ≤ length (F.more e p l) * 10000000
@@ -145,7 +141,7 @@ module _ (t : Terms) (a : Account) (e : Event) (p : ℕ) (l : Entries) (k : Kept
   -- a reversed payment
   pub payments-reverse : isReverse e ≡ true → isPay e ≡ false → length (a .payments) ≡ 128 → paymentCount l ≤ 128 → e .number < paymentCount l
       → (n : ℕ) → n < paymentCount (F.more e p l)
-      → getD (set (a .payments) (e .number) (record { day = payment l (e .number) .event .day; amount = payment l (e .number) .event .amount; part = payment l (e .number) .part; reversed = true })) n noPayment
+      → getD (set (a .payments) (e .number) (record { day = paidOn l (e .number); amount = paidAmount l (e .number); part = paidPart l (e .number); reversed = true })) n noPayment
       ≡ recordedPayment (F.more e p l) n
   payments-reverse y f s x r n h = decide (eqb (e .number) n)
       (λ q. subst (λ (v : ℕ). getD (set (a .payments) (e .number) new) v noPayment ≡ recordedPayment (F.more e p l) v) (eqb-true (e .number) n q)
@@ -154,4 +150,4 @@ module _ (t : Terms) (a : Account) (e : Event) (p : ℕ) (l : Entries) (k : Kept
       ∙ rw (F.payment-same e p l n f, F.reversed-same e p l n (rw q (and-false (isReverse e)))) (k .payments n (rw (F.payments-same e p l f) at h)))
     where
       new : Payment
-      new = record { day = payment l (e .number) .event .day; amount = payment l (e .number) .event .amount; part = payment l (e .number) .part; reversed = true }
+      new = record { day = paidOn l (e .number); amount = paidAmount l (e .number); part = paidPart l (e .number); reversed = true }

@@ -14,7 +14,7 @@ use Rattle.calendar.specs.Calendar.{isDay, monthOn}
 use Rattle.calendar.proofs.Laws.{month-limit}
 use Rattle.terms.specs.declared.Terms.{Terms}
 use Rattle.ledger.specs.declared.Event.{Event}
-use Rattle.ledger.specs.Entries.{paymentCount, payment, reversed}
+use Rattle.ledger.specs.Entries.{paymentCount, paidAmount, paidPart, reversed}
 use Rattle.ledger.specs.Rules.{Ledger}
 use Rattle.ledger.specs.Months.{monthOf}
 use Rattle.ledger.specs.Ledger.{planPart, payEffect, reverseEffect, balanceEffect, refusal}
@@ -84,13 +84,12 @@ module _ (a : Account) (l : Ledger) (e : Event) (g : Agree (a .terms) a l) (s : 
     reversing k = branch (Refines a l e) (leb (a .totals .count) (e .number)) (λ y. absurd (true≢false (sym y ∙ f)))
         (λ _. branch (Refines a l e) (c .payment .reversed)
         (λ r. refused-same a l g e 6 (reverse-code t l e h k ∙ simp (rw (g .sums .count) at f, sym (ap (λ (x : Payment). x .reversed) payment-is) ∙ r)) refl)
-        (λ r. let old = payment (l .list) (e .number) in
-        accepted a l e g s h (reverse-code t l e h k ∙ simp (rw (g .sums .count) at f, sym (ap (λ (x : Payment). x .reversed) payment-is) ∙ r)) 2 k _ refl (reverseEffect l e)
+        (λ r. accepted a l e g s h (reverse-code t l e h k ∙ simp (rw (g .sums .count) at f, sym (ap (λ (x : Payment). x .reversed) payment-is) ∙ r)) 2 k _ refl (reverseEffect l e)
         (rw (number-is, g .kept .payments (e .number) there) (payments-reverse t a e 0 (l .list) (g .kept) (rw k refl) (rw k refl) (g .sizes .payments) (omega (arith, g .bounds .count, g .sums .count)) there))
         (reverse-move t l e k) refl refl
         (record {
-          balance = lowered a l g (old .event .amount - old .part) ∙ ap (λ (x : Payment). diff (a .totals .credit) (a .totals .debit + (x .amount - x .part))) (sym payment-is);
-          plan = ap (λ (x : Payment). a .totals .plan + x .part) payment-is ∙ ap (λ (x : ℕ). x + old .part) (g .sums .plan);
+          balance = lowered a l g (paidAmount (l .list) (e .number) - paidPart (l .list) (e .number)) ∙ ap (λ (x : Payment). diff (a .totals .credit) (a .totals .debit + (x .amount - x .part))) (sym payment-is);
+          plan = ap (λ (x : Payment). a .totals .plan + x .part) payment-is ∙ ap (λ (x : ℕ). x + paidPart (l .list) (e .number)) (g .sums .plan);
           on = g .sums .on;
           credit-most = omega (arith, g .bounds .credit);
           debit-most = omega (arith, g .bounds .debit, ap (λ (x : Payment). x .amount) payment-is, g .kept .amounts (e .number));

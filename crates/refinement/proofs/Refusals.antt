@@ -1,19 +1,17 @@
 -- The ledger's refusals sort by sort, for an event that passes codes 2, 3 and 4; and its step by the code.
 -- Assumes nothing.
-use Prim.Native.Nat.{ℕ, _≤_, _<_}
-use mathlib.Core.Path.{_≡_, refl, sym, ap, _∙_}
-use mathlib.Core.Bool.{Bool, true, false, cond, not, _&&_, _||_, or-false}
-use mathlib.Core.List.{List, [], _∷_}
-use lib.ListN.{length}
+use Prim.Native.Nat.{ℕ}
+use mathlib.Core.Path.{_≡_}
+use mathlib.Core.Bool.{true, false, cond, not, _||_, or-false}
 use lib.Dec.{ltb, leb, eqb}
-use lib.IntN.{ℤ, pos, _+ℤ_, _-ℤ_}
+use lib.IntN.{pos, _+ℤ_, _-ℤ_}
 use lib.Signed.{ltZ, leZ}
 use Rattle.terms.specs.declared.Terms.{Terms}
 use Rattle.ledger.specs.declared.Event.{Event}
 use Rattle.ledger.specs.Event.{inLimits}
-use Rattle.ledger.specs.Entries.{lastDay, paymentCount, reversed, warned, usageDay, isBlank, isMetered, barred}
+use Rattle.ledger.specs.Entries.{paymentCount, reversed, warned, usageDay, isBlank, isMetered, barred}
 use Rattle.ledger.specs.Rules.{Ledger, mayDefer, dayRefused, isFull, refusals, firstOf}
-use Rattle.ledger.specs.Ledger.{Effect, Outcome, payEffect, reverseEffect, balanceEffect, serviceEffect, estimateEffect, readEffect, planEffect, effectOf, joined, answer, refusal, ledgerStep}
+use Rattle.ledger.specs.Ledger.{Effect, payEffect, reverseEffect, balanceEffect, serviceEffect, estimateEffect, readEffect, planEffect, effectOf, joined, answer, refusal, ledgerStep}
 
 -- the event passes codes 2, 3 and 4
 pub record Passes (l : Ledger) (e : Event) : Type 0 where

@@ -5,14 +5,13 @@ use mathlib.Core.Bool.{Bool, true, cond, _&&_}
 use mathlib.Core.List.{List}
 use lib.ListN.{length, getD}
 use lib.Dec.{eqb}
-use lib.IntN.{ℤ, pos, _-ℤ_}
+use lib.IntN.{pos, _-ℤ_}
 use Rattle.calendar.specs.Calendar.{dayCount, monthCount}
 use Rattle.terms.specs.Terms.{validTerms}
 use Rattle.terms.specs.declared.Terms.{Terms}
 use Rattle.ledger.specs.declared.Event.{Event}
-use Rattle.ledger.specs.declared.Answer.{Answer}
 use Rattle.ledger.specs.Event.{isWarn, maxAmount, chargeKindCount}
-use Rattle.ledger.specs.Entries.{Entries, any, lastDay, paymentCount, payment, reversed, UsageDay, blank, estimated, metered, usageDay, covered}
+use Rattle.ledger.specs.Entries.{Entries, any, lastDay, paymentCount, paidOn, paidAmount, paidPart, reversed, UsageDay, blank, estimated, metered, usageDay, covered}
 use Rattle.ledger.specs.Rules.{Ledger, maxEvents, maxPayments}
 use Rattle.ledger.specs.Ledger.{Outcome, opening, ledgerStep, ledgerAfter}
 use Rattle.ledger.specs.Calls.{ledgerCodes}
@@ -38,9 +37,9 @@ recordedUsage (metered wh cost) = Metered wh cost
 -- payment n as the record has it
 abbrev pub recordedPayment : Entries → ℕ → Payment
 recordedPayment l n = record {
-  day = payment l n .event .day;
-  amount = payment l n .event .amount;
-  part = payment l n .part;
+  day = paidOn l n;
+  amount = paidAmount l n;
+  part = paidPart l n;
   reversed = reversed l n;
 }
 
@@ -74,7 +73,7 @@ pub record Bounds (s : Totals) : Type 0 where
 -- what is kept by payment, usage day, day, and month with charge kind
 pub record Kept (t : Terms) (a : Account) (l : Entries) : Type 0 where
   pub payments : (n : ℕ) → n < paymentCount l → getD (a .payments) n noPayment ≡ recordedPayment l n
-  pub amounts : (n : ℕ) → payment l n .event .amount ≤ maxAmount
+  pub amounts : (n : ℕ) → paidAmount l n ≤ maxAmount
   pub days : (u : ℕ) → u < dayCount → getD (a .days) u blankDay .usage ≡ recordedUsage (usageDay t l u)
   pub held : (u : ℕ) → costHeld (recordedUsage (usageDay t l u)) ≤ 10000000
   pub marks : (d : ℕ) → d < dayCount → getD (a .marks) d 0 ≡ recordedMarks l d

@@ -1,6 +1,5 @@
 use Prim.Native.Nat.{_≤_}
 use native.Mathlib.Omega.{arith}
-use borrow.Author.Needs.{needs}
 use borrow.Author.Tests.{le-leb, lt-leb}
 use Rattle.limits.proofs.plan_code.Statement.{statement}
 use Rattle.limits.proofs.plan_code.Tie as tie
