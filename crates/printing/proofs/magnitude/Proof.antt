@@ -23,10 +23,7 @@ returns c = magnitude-below (c .before .args .z) (c .before .fits .z) (c .if1 .t
 cast-result-2 : tie.Need-cast-result-2
 cast-result-2 c = above (c .before .args .z) (c .before .fits .z) (c .if1 .left)
 
-returns-2 : tie.Need-returns-2
-returns-2 c = search needs
-
 pub magnitude-spec : {M : Type 1} → statement M
 magnitude-spec =
     tie.close
-    (tie.spec add-result sub-result cast-result add-result-2 returns cast-result-2 returns-2)
+    (tie.spec add-result sub-result cast-result add-result-2 returns cast-result-2 (λ c. search needs))

@@ -52,15 +52,6 @@ wanted c =
 end : (c : tie.After-put-bytes) → c .put-bytes .result + 1 + c .before .before .before .before .places .result < 2 ^ 64
 end c = omega (arith, left c, c .put-bytes .kept .0, c .before .before .before .before .before .before .before .before .before .good)
 
-magnitude-requires : tie.Need-magnitude-requires
-magnitude-requires c κs = search needs
-
-put-field-requires : tie.Need-put-field-requires
-put-field-requires c κs = search needs
-
-same-length : tie.Need-same-length
-same-length c = search needs
-
 returns : tie.Need-returns
 returns c =
     let above = c .before .before .before .before in
@@ -68,23 +59,14 @@ returns c =
     let s = m .before .before .before in
     rw (signed-above (s .args .z) (s .fits .z) (above .if1 .taken), sym (size m)) (c .before .before .put-field .ensures)
 
-places-requires : tie.Need-places-requires
-places-requires c κs = search needs
-
 add-room : tie.Need-add-room
 add-room c = omega (arith, wanted c)
 
 add-room-2 : tie.Need-add-room-2
 add-room-2 c = omega (arith, wanted c)
 
-room-requires : tie.Need-room-requires
-room-requires c κs = search needs
-
 returns-2 : tie.Need-returns-2
 returns-2 c = puts-nothing _ _ _ (sym (tested (c .before)) ∙ not-true _ (c .if2 .taken))
-
-put-bytes-requires : tie.Need-put-bytes-requires
-put-bytes-requires c κs = search needs
 
 slice-write-out : tie.Need-slice-write-out
 slice-write-out c = omega (arith, left (c .before .before))
@@ -120,16 +102,16 @@ pub put-sum-spec : {M : Type 1} → statement M
 put-sum-spec =
     tie.close
     (tie.spec
-    magnitude-requires
-    put-field-requires
-    same-length
+    (λ c κs. search needs)
+    (λ c κs. search needs)
+    (λ c. search needs)
     returns
-    places-requires
+    (λ c κs. search needs)
     add-room
     add-room-2
-    room-requires
+    (λ c κs. search needs)
     returns-2
-    put-bytes-requires
+    (λ c κs. search needs)
     slice-write-out
     add-first
     add-end

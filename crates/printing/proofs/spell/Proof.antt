@@ -23,20 +23,8 @@ sub-i c = omega (arith, some-digit (c .args .n))
 loop-holds : tie.Need-loop-holds Inv-loop μ-loop
 loop-holds c = (omega (arith, some-digit (c .args .n)), omega arith, refl, refl)
 
-cast-out : tie.Need-cast-out Inv-loop μ-loop
-cast-out c = omega arith
-
-add-out : tie.Need-add-out Inv-loop μ-loop
-add-out c = omega arith
-
-slice-write-out : tie.Need-slice-write-out Inv-loop μ-loop
-slice-write-out c = omega arith
-
 sub-i-2 : tie.Need-sub-i-2 Inv-loop μ-loop
 sub-i-2 c = omega (arith, length-high (c .before .loop .rest) (c .loop-test .taken), some-digit (c .before .loop .rest / 10))
-
-loop-less : tie.Need-loop-less Inv-loop μ-loop
-loop-less c = omega arith
 
 loop-again : tie.Need-loop-again Inv-loop μ-loop
 loop-again c =
@@ -51,15 +39,6 @@ loop-again c =
           ∙ ap (over (l .out) (a .at)) (sym (decimal-high (l .rest) (c .loop-test .taken)))
           ∙ l .inv .3),
     )
-
-cast-out-2 : tie.Need-cast-out-2 Inv-loop μ-loop
-cast-out-2 c = omega arith
-
-add-out-2 : tie.Need-add-out-2 Inv-loop μ-loop
-add-out-2 c = omega arith
-
-slice-write-out-2 : tie.Need-slice-write-out-2 Inv-loop μ-loop
-slice-write-out-2 c = omega arith
 
 same-length : tie.Need-same-length Inv-loop μ-loop
 same-length c = simp length-set (c .before .loop .inv .2)
@@ -80,14 +59,14 @@ spell-spec =
     μ-loop
     sub-i
     loop-holds
-    cast-out
-    add-out
-    slice-write-out
+    (λ c. omega arith)
+    (λ c. omega arith)
+    (λ c. omega arith)
     sub-i-2
-    loop-less
+    (λ c. omega arith)
     loop-again
-    cast-out-2
-    add-out-2
-    slice-write-out-2
+    (λ c. omega arith)
+    (λ c. omega arith)
+    (λ c. omega arith)
     same-length
     returns)

@@ -24,15 +24,6 @@ read-as c = rw (c .read .given .1) at (c .before .before .read-event .ensures)
 loop-holds : tie.Need-loop-holds Inv-loop μ-loop
 loop-holds c = begins _ _ _ (c .before .pre)
 
-read-event-requires : tie.Need-read-event-requires Inv-loop μ-loop
-read-event-requires c κs = search needs
-
-enum-known-read : tie.Need-enum-known-read Inv-loop μ-loop
-enum-known-read c = search needs
-
-post-by-value-requires : tie.Need-post-by-value-requires Inv-loop μ-loop
-post-by-value-requires c κs = search needs
-
 loop-less : tie.Need-loop-less Inv-loop μ-loop
 loop-less c = let e = read-as (c .before .before .before) in omega (arith, e .1, e .2)
 
@@ -40,9 +31,6 @@ loop-again : tie.Need-loop-again Inv-loop μ-loop
 loop-again c =
     let e = read-as (c .before .before .before) in
     turns _ _ _ _ _ (c .before .before .before .before .before .before .loop .inv) _ _ _ (e .0) (e .2) (c .before .post-by-value .ensures .account)
-
-enum-told : tie.Need-enum-told Inv-loop μ-loop
-enum-told c = search needs
 
 returns : tie.Need-returns Inv-loop μ-loop
 returns c = stops _ _ _ _ _ (c .before .before .before .loop .inv) (rw (c .enum-told .given .1) at (c .before .before .read-event .ensures))
@@ -54,10 +42,10 @@ post-events-spec =
     Inv-loop
     μ-loop
     loop-holds
-    read-event-requires
-    enum-known-read
-    post-by-value-requires
+    (λ c κs. search needs)
+    (λ c. search needs)
+    (λ c κs. search needs)
     loop-less
     loop-again
-    enum-told
+    (λ c. search needs)
     returns)

@@ -7,18 +7,6 @@ use borrow.Author.Needs.{needs}
 use Rattle.statement.proofs.put_line.Statement.{statement}
 use Rattle.statement.proofs.put_line.Tie as tie
 
-put-first-requires : tie.Need-put-first-requires
-put-first-requires c κs = search needs
-
-put-usage-requires : tie.Need-put-usage-requires
-put-usage-requires c κs = search needs
-
-put-charges-requires : tie.Need-put-charges-requires
-put-charges-requires c κs = search needs
-
-same-length : tie.Need-same-length
-same-length c = search needs
-
 returns : tie.Need-returns
 unfolding summaryLine
 returns c =
@@ -32,4 +20,4 @@ returns c =
 pub put-line-spec : {M : Type 1} → statement M
 put-line-spec =
     tie.close
-    (tie.spec put-first-requires put-usage-requires put-charges-requires same-length returns)
+    (tie.spec (λ c κs. search needs) (λ c κs. search needs) (λ c κs. search needs) (λ c. search needs) returns)

@@ -21,17 +21,8 @@ abbrev μ-loop : tie.MeasureT-loop
 loop-holds : tie.Need-loop-holds Inv-loop μ-loop
 loop-holds c = (search needs, search needs, none _ _)
 
-summary-requires : tie.Need-summary-requires Inv-loop μ-loop
-summary-requires c κs = search needs
-
 put-line-requires : tie.Need-put-line-requires Inv-loop μ-loop
 put-line-requires c κs = let l = c .before .before .before .loop in omega (arith, kept (l .inv .2), c .before .before .before .before .before .pre)
-
-add-m : tie.Need-add-m Inv-loop μ-loop
-add-m c = search needs
-
-loop-less : tie.Need-loop-less Inv-loop μ-loop
-loop-less c = search needs
 
 loop-again : tie.Need-loop-again Inv-loop μ-loop
 loop-again c =
@@ -55,10 +46,10 @@ put-months-spec =
     Inv-loop
     μ-loop
     loop-holds
-    summary-requires
+    (λ c κs. search needs)
     put-line-requires
-    add-m
-    loop-less
+    (λ c. search needs)
+    (λ c. search needs)
     loop-again
     same-length
     returns)

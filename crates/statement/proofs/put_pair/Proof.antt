@@ -11,15 +11,6 @@ use borrow.Author.Needs.{needs}
 use Rattle.statement.proofs.put_pair.Statement.{statement}
 use Rattle.statement.proofs.put_pair.Tie as tie
 
-put-field-requires : tie.Need-put-field-requires
-put-field-requires c κs = search needs
-
-put-field-requires-2 : tie.Need-put-field-requires-2
-put-field-requires-2 c κs = search needs
-
-same-length : tie.Need-same-length
-same-length c = search needs
-
 returns : tie.Need-returns
 returns c =
     let one = c .before .before .before .before .before .before in
@@ -31,4 +22,4 @@ returns c =
     (pair .0, omega (arith, pair .1))
 
 pub put-pair-spec : {M : Type 1} → statement M
-put-pair-spec = tie.close (tie.spec put-field-requires put-field-requires-2 same-length returns)
+put-pair-spec = tie.close (tie.spec (λ c κs. search needs) (λ c κs. search needs) (λ c. search needs) returns)

@@ -9,21 +9,6 @@ use borrow.Author.Needs.{needs}
 use Rattle.statement.proofs.put_refusal.Statement.{statement}
 use Rattle.statement.proofs.put_refusal.Tie as tie
 
-slice-aggregate-put-field : tie.Need-slice-aggregate-put-field
-slice-aggregate-put-field c = search needs
-
-put-field-requires : tie.Need-put-field-requires
-put-field-requires c κs = search needs
-
-slice-aggregate-put-bytes : tie.Need-slice-aggregate-put-bytes
-slice-aggregate-put-bytes c = search needs
-
-put-bytes-requires : tie.Need-put-bytes-requires
-put-bytes-requires c κs = search needs
-
-same-length : tie.Need-same-length
-same-length c = search needs
-
 returns : tie.Need-returns
 returns c =
     let code = c .before .before .before .before .before .before .before in
@@ -35,9 +20,9 @@ pub put-refusal-spec : {M : Type 1} → statement M
 put-refusal-spec =
     tie.close
     (tie.spec
-    slice-aggregate-put-field
-    put-field-requires
-    slice-aggregate-put-bytes
-    put-bytes-requires
-    same-length
+    (λ c. search needs)
+    (λ c κs. search needs)
+    (λ c. search needs)
+    (λ c κs. search needs)
+    (λ c. search needs)
     returns)

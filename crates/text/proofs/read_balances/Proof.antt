@@ -21,52 +21,16 @@ cutoff c = subst (NumberAt kCutoff _ _) (c .cutoff .given .1) (c .before .before
 share : (c : tie.After-share) → let d = c .before .before .before .before .before in NumberAt kShare (start (d .before .before .before .before .before) .args .text .now) (d .cutoff .given .0 .1 .0) (Got (c .share .given .0 .0) (c .share .given .0 .1 .0))
 share c = subst (NumberAt kShare _ _) (c .share .given .1) (c .before .before .read-number3 .ensures)
 
-slice-aggregate-read-number : tie.Need-slice-aggregate-read-number
-slice-aggregate-read-number c = search needs
-
-read-number-requires : tie.Need-read-number-requires
-read-number-requires c κs = search needs
-
-enum-known-connect : tie.Need-enum-known-connect
-enum-known-connect c = search needs
-
-enum-told : tie.Need-enum-told
-enum-told c = search needs
-
 returns : tie.Need-returns
 returns c =
     let a = c .before .before .before .before .before .args in
     no-connect (a .opened) (a .price) (a .text .now) (a .at) (subst (NumberAt kConnect _ _) (c .enum-told .given .1) (c .before .before .read-number .ensures))
-
-slice-aggregate-read-number-2 : tie.Need-slice-aggregate-read-number-2
-slice-aggregate-read-number-2 c = search needs
-
-read-number-requires-2 : tie.Need-read-number-requires-2
-read-number-requires-2 c κs = search needs
-
-enum-known-cutoff : tie.Need-enum-known-cutoff
-enum-known-cutoff c = search needs
-
-enum-told-2 : tie.Need-enum-told-2
-enum-told-2 c = search needs
 
 returns-2 : tie.Need-returns-2
 returns-2 c =
     let co = c .before .before .before .before .before in
     let a = start co .args in
     no-cutoff (a .opened) (a .price) (a .text .now) (a .at) _ _ (connect co) (subst (NumberAt kCutoff _ _) (c .enum-told2 .given .1) (c .before .before .read-number2 .ensures))
-
-slice-aggregate-read-number-3 : tie.Need-slice-aggregate-read-number-3
-slice-aggregate-read-number-3 c = search needs
-
-read-number-requires-3 : tie.Need-read-number-requires-3
-read-number-requires-3 c κs = search needs
-
-enum-known-share : tie.Need-enum-known-share
-enum-known-share c = search needs
-
-enum-told-3 : tie.Need-enum-told-3
-enum-told-3 c = search needs
 
 returns-3 : tie.Need-returns-3
 returns-3 c =
@@ -87,19 +51,19 @@ pub read-balances-spec : {M : Type 1} → statement M
 read-balances-spec =
     tie.close
     (tie.spec
-    slice-aggregate-read-number
-    read-number-requires
-    enum-known-connect
-    enum-told
+    (λ c. search needs)
+    (λ c κs. search needs)
+    (λ c. search needs)
+    (λ c. search needs)
     returns
-    slice-aggregate-read-number-2
-    read-number-requires-2
-    enum-known-cutoff
-    enum-told-2
+    (λ c. search needs)
+    (λ c κs. search needs)
+    (λ c. search needs)
+    (λ c. search needs)
     returns-2
-    slice-aggregate-read-number-3
-    read-number-requires-3
-    enum-known-share
-    enum-told-3
+    (λ c. search needs)
+    (λ c κs. search needs)
+    (λ c. search needs)
+    (λ c. search needs)
     returns-3
     returns-4)

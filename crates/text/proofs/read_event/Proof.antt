@@ -16,31 +16,10 @@ day c = subst (NumberAt kDay _ _) (c .day .given .1) (c .before .before .read-da
 sort : (c : tie.After-sort) → let d = c .before .before .before .before in SortAt (d .before .before .before .before .before .args .text .now) (d .day .given .0 .1 .0) (Got (c .sort .given .0 .0) (c .sort .given .0 .1 .0))
 sort c = subst (SortAt _ _) (c .sort .given .1) (c .before .before .read-sort .ensures)
 
-slice-aggregate-read-day : tie.Need-slice-aggregate-read-day
-slice-aggregate-read-day c = search needs
-
-read-day-requires : tie.Need-read-day-requires
-read-day-requires c κs = search needs
-
-enum-known-day : tie.Need-enum-known-day
-enum-known-day c = search needs
-
-enum-told : tie.Need-enum-told
-enum-told c = search needs
-
 returns : tie.Need-returns
 returns c =
     let a = c .before .before .before .before .before .args in
     no-day (a .text .now) (a .at) (subst (NumberAt kDay _ _) (c .enum-told .given .1) (c .before .before .read-day .ensures))
-
-read-sort-requires : tie.Need-read-sort-requires
-read-sort-requires c κs = search needs
-
-enum-known-sort : tie.Need-enum-known-sort
-enum-known-sort c = search needs
-
-enum-told-2 : tie.Need-enum-told-2
-enum-told-2 c = search needs
 
 returns-2 : tie.Need-returns-2
 returns-2 c =
@@ -62,14 +41,14 @@ pub read-event-spec : {M : Type 1} → statement M
 read-event-spec =
     tie.close
     (tie.spec
-    slice-aggregate-read-day
-    read-day-requires
-    enum-known-day
-    enum-told
+    (λ c. search needs)
+    (λ c κs. search needs)
+    (λ c. search needs)
+    (λ c. search needs)
     returns
-    read-sort-requires
-    enum-known-sort
-    enum-told-2
+    (λ c κs. search needs)
+    (λ c. search needs)
+    (λ c. search needs)
     returns-2
     read-fields-requires
     returns-3)

@@ -43,24 +43,6 @@ low c h =
     let four : n ≡ 4 → ⊥ = r .0 .0 .1 in
     omega arith
 
-read-field-requires : tie.Need-read-field-requires
-read-field-requires c κs = search needs
-
-read-field-requires-2 : tie.Need-read-field-requires-2
-read-field-requires-2 c κs = search needs
-
-read-two-requires : tie.Need-read-two-requires
-read-two-requires c κs = search needs
-
-read-mark-requires : tie.Need-read-mark-requires
-read-mark-requires c κs = search needs
-
-read-field-requires-3 : tie.Need-read-field-requires-3
-read-field-requires-3 c κs = search needs
-
-read-two-requires-2 : tie.Need-read-two-requires-2
-read-two-requires-2 c κs = search needs
-
 returns : tie.Need-returns
 returns c = by (c .before .before .before) _ (c .read-field .result) (of-amount _ (c .before .match .keys1)) (c .read-field .ensures)
 
@@ -93,12 +75,12 @@ pub read-fields-spec : {M : Type 1} → statement M
 read-fields-spec =
     tie.close
     (tie.spec
-    read-field-requires
-    read-field-requires-2
-    read-two-requires
-    read-mark-requires
-    read-field-requires-3
-    read-two-requires-2
+    (λ c κs. search needs)
+    (λ c κs. search needs)
+    (λ c κs. search needs)
+    (λ c κs. search needs)
+    (λ c κs. search needs)
+    (λ c κs. search needs)
     returns
     returns-2
     returns-3

@@ -8,22 +8,10 @@ use Rattle.text.proofs.Fields.{first-none, first-then}
 use Rattle.text.proofs.read_mark.Statement.{statement}
 use Rattle.text.proofs.read_mark.Tie as tie
 
-read-field-requires : tie.Need-read-field-requires
-read-field-requires c κs = search needs
-
-enum-known-event : tie.Need-enum-known-event
-enum-known-event c = search needs
-
-enum-told : tie.Need-enum-told
-enum-told c = search needs
-
 returns : tie.Need-returns
 returns c =
     let a = c .before .before .before .before .args in
     first-none kind (a .event) (a .text .now) (a .at) _ (subst (FieldsAt (kind ∷ []) _ _ _) (c .enum-told .given .1) (c .before .before .read-field .ensures))
-
-read-two-requires : tie.Need-read-two-requires
-read-two-requires c κs = search needs
 
 returns-2 : tie.Need-returns-2
 returns-2 c =
@@ -34,4 +22,4 @@ returns-2 c =
 pub read-mark-spec : {M : Type 1} → statement M
 read-mark-spec =
     tie.close
-    (tie.spec read-field-requires enum-known-event enum-told returns read-two-requires returns-2)
+    (tie.spec (λ c κs. search needs) (λ c. search needs) (λ c. search needs) returns (λ c κs. search needs) returns-2)

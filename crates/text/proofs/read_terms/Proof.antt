@@ -20,40 +20,13 @@ opened c = subst (DateAt kOpen _ _) (c .opened .given .1) (c .before .before .re
 price : (c : tie.After-price) → let o = c .before .before .before .before .before in NumberAt kPrice (text o) (o .opened .given .0 .1 .0) (number-read.Got (c .price .given .0 .0) (c .price .given .0 .1 .0))
 price c = subst (NumberAt kPrice _ _) (c .price .given .1) (c .before .before .read-number .ensures)
 
-slice-aggregate-read-date : tie.Need-slice-aggregate-read-date
-slice-aggregate-read-date c = search needs
-
-read-date-requires : tie.Need-read-date-requires
-read-date-requires c κs = search needs
-
-enum-known-opened : tie.Need-enum-known-opened
-enum-known-opened c = search needs
-
-enum-told : tie.Need-enum-told
-enum-told c = search needs
-
 returns : tie.Need-returns
 returns c = no-open _ (subst (DateAt kOpen _ _) (c .enum-told .given .1) (c .before .before .read-date .ensures))
-
-slice-aggregate-read-number : tie.Need-slice-aggregate-read-number
-slice-aggregate-read-number c = search needs
-
-read-number-requires : tie.Need-read-number-requires
-read-number-requires c κs = search needs
-
-enum-known-price : tie.Need-enum-known-price
-enum-known-price c = search needs
-
-enum-told-2 : tie.Need-enum-told-2
-enum-told-2 c = search needs
 
 returns-2 : tie.Need-returns-2
 returns-2 c =
     let o = c .before .before .before .before .before in
     no-price (text o) _ _ (opened o) (subst (NumberAt kPrice _ _) (c .enum-told2 .given .1) (c .before .before .read-number .ensures))
-
-read-balances-requires : tie.Need-read-balances-requires
-read-balances-requires c κs = search needs
 
 returns-3 : tie.Need-returns-3
 returns-3 c =
@@ -65,15 +38,15 @@ pub read-terms-spec : {M : Type 1} → statement M
 read-terms-spec =
     tie.close
     (tie.spec
-    slice-aggregate-read-date
-    read-date-requires
-    enum-known-opened
-    enum-told
+    (λ c. search needs)
+    (λ c κs. search needs)
+    (λ c. search needs)
+    (λ c. search needs)
     returns
-    slice-aggregate-read-number
-    read-number-requires
-    enum-known-price
-    enum-told-2
+    (λ c. search needs)
+    (λ c κs. search needs)
+    (λ c. search needs)
+    (λ c. search needs)
     returns-2
-    read-balances-requires
+    (λ c κs. search needs)
     returns-3)

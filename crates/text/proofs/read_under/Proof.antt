@@ -4,69 +4,6 @@ use Rattle.text.proofs.Fields.{under}
 use Rattle.text.proofs.read_under.Statement.{statement}
 use Rattle.text.proofs.read_under.Tie as tie
 
-enum-told : tie.Need-enum-told
-enum-told c = search needs
-
-slice-aggregate-read-number : tie.Need-slice-aggregate-read-number
-slice-aggregate-read-number c = search needs
-
-read-number-requires : tie.Need-read-number-requires
-read-number-requires c κs = search needs
-
-enum-told-2 : tie.Need-enum-told-2
-enum-told-2 c = search needs
-
-slice-aggregate-read-number-2 : tie.Need-slice-aggregate-read-number-2
-slice-aggregate-read-number-2 c = search needs
-
-read-number-requires-2 : tie.Need-read-number-requires-2
-read-number-requires-2 c κs = search needs
-
-enum-told-3 : tie.Need-enum-told-3
-enum-told-3 c = search needs
-
-slice-aggregate-read-number-3 : tie.Need-slice-aggregate-read-number-3
-slice-aggregate-read-number-3 c = search needs
-
-read-number-requires-3 : tie.Need-read-number-requires-3
-read-number-requires-3 c κs = search needs
-
-enum-told-4 : tie.Need-enum-told-4
-enum-told-4 c = search needs
-
-slice-aggregate-read-day : tie.Need-slice-aggregate-read-day
-slice-aggregate-read-day c = search needs
-
-read-day-requires : tie.Need-read-day-requires
-read-day-requires c κs = search needs
-
-enum-told-5 : tie.Need-enum-told-5
-enum-told-5 c = search needs
-
-slice-aggregate-read-number-4 : tie.Need-slice-aggregate-read-number-4
-slice-aggregate-read-number-4 c = search needs
-
-read-number-requires-4 : tie.Need-read-number-requires-4
-read-number-requires-4 c κs = search needs
-
-enum-told-6 : tie.Need-enum-told-6
-enum-told-6 c = search needs
-
-slice-aggregate-read-day-2 : tie.Need-slice-aggregate-read-day-2
-slice-aggregate-read-day-2 c = search needs
-
-read-day-requires-2 : tie.Need-read-day-requires-2
-read-day-requires-2 c κs = search needs
-
-enum-told-7 : tie.Need-enum-told-7
-enum-told-7 c = search needs
-
-slice-aggregate-read-day-3 : tie.Need-slice-aggregate-read-day-3
-slice-aggregate-read-day-3 c = search needs
-
-read-day-requires-3 : tie.Need-read-day-requires-3
-read-day-requires-3 c κs = search needs
-
 returns : tie.Need-returns
 returns c =
     let a = c .before .before .before .before .before .args in
@@ -106,27 +43,27 @@ pub read-under-spec : {M : Type 1} → statement M
 read-under-spec =
     tie.close
     (tie.spec
-    enum-told
-    slice-aggregate-read-number
-    read-number-requires
-    enum-told-2
-    slice-aggregate-read-number-2
-    read-number-requires-2
-    enum-told-3
-    slice-aggregate-read-number-3
-    read-number-requires-3
-    enum-told-4
-    slice-aggregate-read-day
-    read-day-requires
-    enum-told-5
-    slice-aggregate-read-number-4
-    read-number-requires-4
-    enum-told-6
-    slice-aggregate-read-day-2
-    read-day-requires-2
-    enum-told-7
-    slice-aggregate-read-day-3
-    read-day-requires-3
+    (λ c. search needs)
+    (λ c. search needs)
+    (λ c κs. search needs)
+    (λ c. search needs)
+    (λ c. search needs)
+    (λ c κs. search needs)
+    (λ c. search needs)
+    (λ c. search needs)
+    (λ c κs. search needs)
+    (λ c. search needs)
+    (λ c. search needs)
+    (λ c κs. search needs)
+    (λ c. search needs)
+    (λ c. search needs)
+    (λ c κs. search needs)
+    (λ c. search needs)
+    (λ c. search needs)
+    (λ c κs. search needs)
+    (λ c. search needs)
+    (λ c. search needs)
+    (λ c κs. search needs)
     returns
     returns-2
     returns-3

@@ -16,17 +16,8 @@ returns-3 c = too-many _ _ _ (c .before .before .before .if1 .left) (c .before .
 put-events-requires : tie.Need-put-events-requires
 put-events-requires c κs = (c .before .before .before .before .before .if2 .left, c .before .if4 .taken, c .before .before .before .if3 .left, c .before .before .before .before .before .before .if1 .left)
 
-same-length : tie.Need-same-length
-same-length c = search needs
-
 returns-4 : tie.Need-returns-4
 returns-4 c = c .before .before .put-events .ensures
-
-put-event-requires : tie.Need-put-event-requires
-put-event-requires c κs = search needs
-
-same-length-2 : tie.Need-same-length-2
-same-length-2 c = search needs
 
 returns-5 : tie.Need-returns-5
 returns-5 c = refused _ _ (c .before .before .before .before .before .before .before .before .if2 .left) (c .before .before .before .before .before .before .if3 .left) (c .before .before .before .before .if4 .left) (c .before .before .before .before .before .before .before .before .before .if1 .left) (c .before .before .put-event .ensures .0)
@@ -39,8 +30,8 @@ piece-spec =
     returns-2
     returns-3
     put-events-requires
-    same-length
+    (λ c. search needs)
     returns-4
-    put-event-requires
-    same-length-2
+    (λ c κs. search needs)
+    (λ c. search needs)
     returns-5)

@@ -10,33 +10,6 @@ use borrow.Author.Needs.{needs}
 use Rattle.transcript.proofs.put_closing.Statement.{statement}
 use Rattle.transcript.proofs.put_closing.Tie as tie
 
-settled-requires : tie.Need-settled-requires
-settled-requires c κs = search needs
-
-estimates-requires : tie.Need-estimates-requires
-estimates-requires c κs = search needs
-
-slice-aggregate-put-sum : tie.Need-slice-aggregate-put-sum
-slice-aggregate-put-sum c = search needs
-
-put-sum-requires : tie.Need-put-sum-requires
-put-sum-requires c κs = search needs
-
-slice-aggregate-put-field : tie.Need-slice-aggregate-put-field
-slice-aggregate-put-field c = search needs
-
-put-field-requires : tie.Need-put-field-requires
-put-field-requires c κs = search needs
-
-slice-aggregate-put-bytes : tie.Need-slice-aggregate-put-bytes
-slice-aggregate-put-bytes c = search needs
-
-put-bytes-requires : tie.Need-put-bytes-requires
-put-bytes-requires c κs = search needs
-
-same-length : tie.Need-same-length
-same-length c = search needs
-
 returns : tie.Need-returns
 unfolding lastLine
 returns c =
@@ -52,13 +25,13 @@ pub put-closing-spec : {M : Type 1} → statement M
 put-closing-spec =
     tie.close
     (tie.spec
-    settled-requires
-    estimates-requires
-    slice-aggregate-put-sum
-    put-sum-requires
-    slice-aggregate-put-field
-    put-field-requires
-    slice-aggregate-put-bytes
-    put-bytes-requires
-    same-length
+    (λ c κs. search needs)
+    (λ c κs. search needs)
+    (λ c. search needs)
+    (λ c κs. search needs)
+    (λ c. search needs)
+    (λ c κs. search needs)
+    (λ c. search needs)
+    (λ c κs. search needs)
+    (λ c. search needs)
     returns)

@@ -10,51 +10,6 @@ use borrow.Author.Needs.{needs}
 use Rattle.transcript.proofs.put_event.Statement.{statement}
 use Rattle.transcript.proofs.put_event.Tie as tie
 
-balance-requires : tie.Need-balance-requires
-balance-requires c κs = search needs
-
-plan-requires : tie.Need-plan-requires
-plan-requires c κs = search needs
-
-slice-aggregate-put-field : tie.Need-slice-aggregate-put-field
-slice-aggregate-put-field c = search needs
-
-put-field-requires : tie.Need-put-field-requires
-put-field-requires c κs = search needs
-
-slice-aggregate-put-field-2 : tie.Need-slice-aggregate-put-field-2
-slice-aggregate-put-field-2 c = search needs
-
-put-field-requires-2 : tie.Need-put-field-requires-2
-put-field-requires-2 c κs = search needs
-
-slice-aggregate-put-field-3 : tie.Need-slice-aggregate-put-field-3
-slice-aggregate-put-field-3 c = search needs
-
-put-field-requires-3 : tie.Need-put-field-requires-3
-put-field-requires-3 c κs = search needs
-
-slice-aggregate-put-sum : tie.Need-slice-aggregate-put-sum
-slice-aggregate-put-sum c = search needs
-
-put-sum-requires : tie.Need-put-sum-requires
-put-sum-requires c κs = search needs
-
-slice-aggregate-put-field-4 : tie.Need-slice-aggregate-put-field-4
-slice-aggregate-put-field-4 c = search needs
-
-put-field-requires-4 : tie.Need-put-field-requires-4
-put-field-requires-4 c κs = search needs
-
-slice-aggregate-put-bytes : tie.Need-slice-aggregate-put-bytes
-slice-aggregate-put-bytes c = search needs
-
-put-bytes-requires : tie.Need-put-bytes-requires
-put-bytes-requires c κs = search needs
-
-same-length : tie.Need-same-length
-same-length c = search needs
-
 returns : tie.Need-returns
 unfolding line
 returns c =
@@ -75,19 +30,19 @@ pub put-event-spec : {M : Type 1} → statement M
 put-event-spec =
     tie.close
     (tie.spec
-    balance-requires
-    plan-requires
-    slice-aggregate-put-field
-    put-field-requires
-    slice-aggregate-put-field-2
-    put-field-requires-2
-    slice-aggregate-put-field-3
-    put-field-requires-3
-    slice-aggregate-put-sum
-    put-sum-requires
-    slice-aggregate-put-field-4
-    put-field-requires-4
-    slice-aggregate-put-bytes
-    put-bytes-requires
-    same-length
+    (λ c κs. search needs)
+    (λ c κs. search needs)
+    (λ c. search needs)
+    (λ c κs. search needs)
+    (λ c. search needs)
+    (λ c κs. search needs)
+    (λ c. search needs)
+    (λ c κs. search needs)
+    (λ c. search needs)
+    (λ c κs. search needs)
+    (λ c. search needs)
+    (λ c κs. search needs)
+    (λ c. search needs)
+    (λ c κs. search needs)
+    (λ c. search needs)
     returns)
