@@ -7,7 +7,7 @@ use native.Mathlib.Omega.{arith}
 use lib.ListN.{length, getD, take, drop, length-drop, drop-of-length-le}
 use lib.Seq.{drop-cons, drop-drop, getD-drop}
 use borrow.Author.Tests.{eq-eqb, ne-eqb}
-use Rattle.scanner.specs.Scanner.{Read, got, broken, feed, equals, readLine, after, readValue, part}
+use Rattle.scanner.specs.Scanner.{Read, got, broken, feed, equals, readLine, after, readValue, between}
 
 -- ---- the first line feed
 
@@ -23,7 +23,7 @@ line-none [] b = refl
 line-none (x ∷ s) b = simp (ne-eqb x feed (b 0 (omega arith)), line-none s (λ k i. b (suc k) (omega arith)))
 
 module _ (s : List ℕ) (at : ℕ) where
-  pub feed-found : (end : ℕ) → at ≤ end → end < length s → getD s end 0 ≡ feed → ((k : ℕ) → k < end → at ≤ k → getD s k 0 ≡ feed → ⊥) → readLine (drop at s) ≡ got (part s at end) (drop (end + 1) s)
+  pub feed-found : (end : ℕ) → at ≤ end → end < length s → getD s end 0 ≡ feed → ((k : ℕ) → k < end → at ≤ k → getD s k 0 ≡ feed → ⊥) → readLine (drop at s) ≡ got (between s at end) (drop (end + 1) s)
   feed-found end a l e b =
       let there : at + (end - at) ≡ end = omega arith in
       let past : at + suc (end - at) ≡ end + 1 = omega arith in

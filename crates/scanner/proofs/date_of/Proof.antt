@@ -16,22 +16,22 @@ returns-3 c = no-second-hyphen _ _ (c .before .before .before .before .if1 .left
 returns-4 : tie.Need-returns-4
 returns-4 c =
     let e = c .before .before in
-    no-century _ _ (e .before .before .before .before .if1 .left) (e .before .before .if2 .left) (e .if3 .left) _ (c .before .pair-at .ensures) (c .if4 .taken)
+    no-century _ _ (e .before .before .before .before .if1 .left) (e .before .before .if2 .left) (e .if3 .left) _ (c .before .two-digits .ensures) (c .if4 .taken)
 
 returns-5 : tie.Need-returns-5
 returns-5 c =
     let e = c .before .before .before .before in
-    no-years _ _ (e .before .before .before .before .if1 .left) (e .before .before .if2 .left) (e .if3 .left) _ (c .before .pair-at2 .ensures) (c .if5 .taken)
+    no-years _ _ (e .before .before .before .before .if1 .left) (e .before .before .if2 .left) (e .if3 .left) _ (c .before .two-digits2 .ensures) (c .if5 .taken)
 
 returns-6 : tie.Need-returns-6
 returns-6 c =
     let e = c .before .before .before .before .before .before in
-    no-month _ _ (e .before .before .before .before .if1 .left) (e .before .before .if2 .left) (e .if3 .left) _ (c .before .pair-at3 .ensures) (c .if6 .taken)
+    no-month _ _ (e .before .before .before .before .if1 .left) (e .before .before .if2 .left) (e .if3 .left) _ (c .before .two-digits3 .ensures) (c .if6 .taken)
 
 returns-7 : tie.Need-returns-7
 returns-7 c =
     let e = c .before .before .before .before .before .before .before .before in
-    no-day _ _ (e .before .before .before .before .if1 .left) (e .before .before .if2 .left) (e .if3 .left) _ (c .before .pair-at4 .ensures) (c .if7 .taken)
+    no-day _ _ (e .before .before .before .before .if1 .left) (e .before .before .if2 .left) (e .if3 .left) _ (c .before .two-digits4 .ensures) (c .if7 .taken)
 
 returns-8 : tie.Need-returns-8
 returns-8 c =
@@ -40,7 +40,7 @@ returns-8 c =
     let years = month .before .before in
     let century = years .before .before in
     let e = century .before in
-    whole-date _ _ (e .before .before .before .before .if1 .left) (e .before .before .if2 .left) (e .if3 .left) _ _ _ _ (century .pair-at .ensures, years .before .if4 .left) (years .pair-at2 .ensures, month .before .if5 .left) (month .pair-at3 .ensures, day .before .if6 .left) (day .pair-at4 .ensures, c .if7 .left)
+    whole-date _ _ (e .before .before .before .before .if1 .left) (e .before .before .if2 .left) (e .if3 .left) _ _ _ _ (century .two-digits .ensures, years .before .if4 .left) (years .two-digits2 .ensures, month .before .if5 .left) (month .two-digits3 .ensures, day .before .if6 .left) (day .two-digits4 .ensures, c .if7 .left)
 
 pub date-of-spec : {M : Type 1} → statement M
 date-of-spec =

@@ -3,7 +3,7 @@ use mathlib.Core.Path.{subst, _∙_}
 use native.Mathlib.Omega.{arith}
 use borrow.Author.Needs.{needs}
 use Rattle.scanner.specs.Places.{FeedAt, StartAt}
-use Rattle.scanner.specs.declared.Place.the-variants.{At}
+use Rattle.scanner.specs.declared.Position.the-variants.{At}
 use Rattle.scanner.proofs.Lines.{no-start, started}
 use Rattle.scanner.proofs.read_value.Statement.{statement}
 use Rattle.scanner.proofs.read_value.Tie as tie

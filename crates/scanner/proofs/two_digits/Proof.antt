@@ -1,8 +1,8 @@
--- `scanner::pair_at` meets its contract. Assumes nothing.
+-- `scanner::two_digits` meets its contract. Assumes nothing.
 use borrow.Author.Needs.{needs}
-use Rattle.scanner.proofs.Dates.{no-tens, no-units, a-pair}
-use Rattle.scanner.proofs.pair_at.Statement.{statement}
-use Rattle.scanner.proofs.pair_at.Tie as tie
+use Rattle.scanner.proofs.Dates.{no-tens, no-units, both-digits}
+use Rattle.scanner.proofs.two_digits.Statement.{statement}
+use Rattle.scanner.proofs.two_digits.Tie as tie
 
 returns : tie.Need-returns
 returns c =
@@ -17,10 +17,10 @@ returns-2 c =
 returns-3 : tie.Need-returns-3
 returns-3 c =
     let a = c .before .before .before .before .before .before .before .args in
-    a-pair (a .value .now) (a .i) _ _ (c .before .before .before .before .digit .ensures) (c .before .before .digit2 .ensures) (c .before .if1 .left) (c .if2 .left)
+    both-digits (a .value .now) (a .i) _ _ (c .before .before .before .before .digit .ensures) (c .before .before .digit2 .ensures) (c .before .if1 .left) (c .if2 .left)
 
-pub pair-at-spec : {M : Type 1} → statement M
-pair-at-spec =
+pub two-digits-spec : {M : Type 1} → statement M
+two-digits-spec =
     tie.close
     (tie.spec
     (λ c. search needs)
