@@ -1,16 +1,16 @@
 -- What the functions inside the scanner answer.
 use Prim.Native.Nat.{ℕ, _+_, _-_, _≤_, _<_}
 use mathlib.Core.Path.{_≡_}
-use mathlib.Core.Bool.{cond, _&&_}
+use mathlib.Core.Bool.{cond}
 use mathlib.Core.List.{List, [], _∷_, _++_}
-use lib.ListN.{length, getD, drop}
+use lib.ListN.{length, drop}
 use Rattle.scanner.specs.declared.Position.{Position}
 use Rattle.scanner.specs.declared.Position.the-variants as position
 use Rattle.scanner.specs.declared.NumberRead.{NumberRead}
 use Rattle.scanner.specs.declared.NumberRead.the-variants as number-read
 use Rattle.scanner.specs.declared.DateRead.{DateRead}
 use Rattle.scanner.specs.declared.DateRead.the-variants as date-read
-use Rattle.scanner.specs.Scanner.{Read, got, broken, then, equals, readLine, after, isDigit, valueFrom, isNumber, isDateForm, twoDigits, dateValue, between}
+use Rattle.scanner.specs.Scanner.{Read, got, broken, then, equals, readLine, after, isDigit, valueFrom, isNumber, isDateForm, areDigits, twoDigits, dateValue, between}
 
 -- ---- bytes by themselves
 
@@ -20,7 +20,7 @@ digitOf b = cond (isDigit b) (b - 48) 10
 
 -- the number of the two digits at a place, 100 for none
 abbrev pub twoDigitsAt : List ℕ → ℕ → ℕ
-twoDigitsAt v i = cond (isDigit (getD v i 0) && isDigit (getD v (i + 1) 0)) (twoDigits (getD v i 0) (getD v (i + 1) 0)) 100
+twoDigitsAt v i = cond (areDigits v i) (twoDigits v i) 100
 
 -- the date that a line's value is, with what follows the line
 abbrev pub dateOf : List ℕ → ℕ → DateRead

@@ -84,28 +84,22 @@ readNumber key s = then (readValue key s) (λ (v r : List ℕ). cond (isNumber v
 
 -- ---- dates
 
+-- the two digits at a place, and their number
+abbrev pub areDigits : List ℕ → ℕ → Bool
+areDigits v i = isDigit (getD v i 0) && isDigit (getD v (i + 1) 0)
+
+abbrev pub twoDigits : List ℕ → ℕ → ℕ
+twoDigits v i = (getD v i 0 - 48) * 10 + (getD v (i + 1) 0 - 48)
+
 -- "Dates are YYYY-MM-DD": any digits
 unfoldable pub isDateForm : List ℕ → Bool
 isDateForm v =
     eqb (length v) 10
     && (eqb (getD v 4 0) hyphen
-    && (eqb (getD v 7 0) hyphen
-    && (isDigit (getD v 0 0)
-    && (isDigit (getD v 1 0)
-    && (isDigit (getD v 2 0)
-    && (isDigit (getD v 3 0)
-    && (isDigit (getD v 5 0) && (isDigit (getD v 6 0) && (isDigit (getD v 8 0) && isDigit (getD v 9 0))))))))))
-
--- the number of two digits
-abbrev pub twoDigits : ℕ → ℕ → ℕ
-twoDigits a b = (a - 48) * 10 + (b - 48)
+    && (eqb (getD v 7 0) hyphen && (areDigits v 0 && (areDigits v 2 && (areDigits v 5 && areDigits v 8)))))
 
 unfoldable pub dateValue : List ℕ → Date
-dateValue v = record {
-  year = twoDigits (getD v 0 0) (getD v 1 0) * 100 + twoDigits (getD v 2 0) (getD v 3 0);
-  month = twoDigits (getD v 5 0) (getD v 6 0);
-  day = twoDigits (getD v 8 0) (getD v 9 0);
-}
+dateValue v = record { year = twoDigits v 0 * 100 + twoDigits v 2; month = twoDigits v 5; day = twoDigits v 8 }
 
 unfoldable pub readDate : List ℕ → List ℕ → Read Date
 readDate key s = then (readValue key s) (λ (v r : List ℕ). cond (isDateForm v) (got (dateValue v) r) broken)
