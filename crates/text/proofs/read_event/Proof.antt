@@ -1,17 +1,16 @@
 -- `text::read_event` meets its contract. Assumes nothing.
 use mathlib.Core.Path.{subst}
 use borrow.Author.Needs.{needs}
-use Rattle.scanner.specs.Scanner.{NumberAt}
+use Rattle.scanner.specs.Scanner.{bytes, NumberAt}
 use Rattle.scanner.specs.declared.NumberRead.the-variants.{Got}
-use Rattle.text.specs.Text.{kDay}
 use Rattle.text.specs.Places.{SortAt}
 use Rattle.text.proofs.Whole.{no-day, no-sort, whole-event}
 use Rattle.text.proofs.read_event.Statement.{statement}
 use Rattle.text.proofs.read_event.Tie as tie
 
 -- the day, and the sort
-day : (c : tie.After-day) → let a = c .before .before .before .before .before .args in NumberAt kDay (a .text .now) (a .at) (Got (c .day .given .0 .0) (c .day .given .0 .1 .0))
-day c = subst (NumberAt kDay _ _) (c .day .given .1) (c .before .before .read-day .ensures)
+day : (c : tie.After-day) → let a = c .before .before .before .before .before .args in NumberAt (bytes "day") (a .text .now) (a .at) (Got (c .day .given .0 .0) (c .day .given .0 .1 .0))
+day c = subst (NumberAt (bytes "day") _ _) (c .day .given .1) (c .before .before .read-number .ensures)
 
 sort : (c : tie.After-sort) → let d = c .before .before .before .before in SortAt (d .before .before .before .before .before .args .text .now) (d .day .given .0 .1 .0) (Got (c .sort .given .0 .0) (c .sort .given .0 .1 .0))
 sort c = subst (SortAt _ _) (c .sort .given .1) (c .before .before .read-sort .ensures)
@@ -19,7 +18,7 @@ sort c = subst (SortAt _ _) (c .sort .given .1) (c .before .before .read-sort .e
 returns : tie.Need-returns
 returns c =
     let a = c .before .before .before .before .before .args in
-    no-day (a .text .now) (a .at) (subst (NumberAt kDay _ _) (c .enum-told .given .1) (c .before .before .read-day .ensures))
+    no-day (a .text .now) (a .at) (subst (NumberAt (bytes "day") _ _) (c .enum-told .given .1) (c .before .before .read-number .ensures))
 
 returns-2 : tie.Need-returns-2
 returns-2 c =

@@ -2,15 +2,14 @@
 use mathlib.Core.Path.{subst}
 use native.Mathlib.Omega.{arith}
 use borrow.Author.Needs.{needs}
-use Rattle.scanner.specs.Scanner.{ValueAt}
+use Rattle.scanner.specs.Scanner.{bytes, ValueAt}
 use Rattle.scanner.specs.declared.ValueRead.the-variants.{Got}
-use Rattle.text.specs.Text.{kDo}
 use Rattle.text.proofs.Sorts.{no-do, no-word, sort-is}
 use Rattle.text.proofs.read_sort.Statement.{statement}
 use Rattle.text.proofs.read_sort.Tie as tie
 
 -- the value
-valued : (c : tie.After-from) → let a = c .before .before .before .before .before .args in ValueAt kDo (a .text .now) (a .at) (Got (c .from .given .0 .0) (c .from .given .0 .1 .0) (c .from .given .0 .1 .1 .0))
+valued : (c : tie.After-from) → let a = c .before .before .before .before .before .args in ValueAt (bytes "do") (a .text .now) (a .at) (Got (c .from .given .0 .0) (c .from .given .0 .1 .0) (c .from .given .0 .1 .1 .0))
 valued c = subst (ValueAt _ _ _) (c .from .given .1) (c .before .before .read-value .ensures)
 
 returns : tie.Need-returns
