@@ -13,6 +13,9 @@ ghost use lib.ListN.{length};
 ghost use Rattle.text.specs.Text.{TermsAt, EventAt, fieldLine, sorts, sortIn, linesIn, stored};
 ghost use Rattle.text.specs.Places.{BalancesAt, foundOr, SortAt, FieldsAt, NextAt};
 
+// The bytes of the longest text.
+pub const LONGEST: usize = 65536;
+
 // The terms at the start of a text and where its events start, or that they break the form.
 pub enum TermsRead {
     Got { terms: Terms, next: usize },
