@@ -28,16 +28,16 @@ by-read broken g f = f refl
 
 -- ---- what is made of the events, by what stands there
 
-module _ {S Y : Type 0} (w : Fold S Y) (more : S → ℕ → List ℕ → Y) (x : S) (n : ℕ) where
-  pub fold-got : (s r : List ℕ) (e : Event) → 0 < length s → readEvent s ≡ got e r → foldBy w more x n s ≡ w .event n x e (more (w .after x e) (n + 1) r)
+module _ {S Y : Type 0} (w : Fold S Y) (more : S → List ℕ → Y) (x : S) where
+  pub fold-got : (s r : List ℕ) (e : Event) → 0 < length s → readEvent s ≡ got e r → foldBy w more x s ≡ w .event x e (more (w .after x e) r)
   fold-got [] r e h g = absurd (omega arith)
   fold-got (b ∷ s) r e h g = rw (g, foldBy)
 
-  pub fold-broken : (s : List ℕ) → 0 < length s → readEvent s ≡ broken → foldBy w more x n s ≡ w .malformed n x
+  pub fold-broken : (s : List ℕ) → 0 < length s → readEvent s ≡ broken → foldBy w more x s ≡ w .malformed x
   fold-broken [] h g = absurd (omega arith)
   fold-broken (b ∷ s) h g = rw (g, foldBy)
 
-  pub fold-end : (s : List ℕ) → length s ≡ 0 → foldBy w more x n s ≡ w .end x
+  pub fold-end : (s : List ℕ) → length s ≡ 0 → foldBy w more x s ≡ w .end x
   fold-end [] h = refl
   fold-end (b ∷ s) h = absurd (omega arith)
 
@@ -63,15 +63,15 @@ module _ (more : Account → ℕ → ℕ → ℕ → Progress) (room : ℕ) (s :
 
 -- ---- they go by what follows in fewer bytes alone
 
-fold-local : {S Y : Type 0} (w : Fold S Y) (f g : S → ℕ → List ℕ → Y) (x : S) (n : ℕ) (s : List ℕ)
-    → ((y : S) (i : ℕ) (r : List ℕ) → length r < length s → f y i r ≡ g y i r) → foldBy w f x n s ≡ foldBy w g x n s
-fold-local w f g x n [] h = refl
-fold-local w f g x n (b ∷ s) h = by-read (readEvent (b ∷ s))
+fold-local : {S Y : Type 0} (w : Fold S Y) (f g : S → List ℕ → Y) (x : S) (s : List ℕ)
+    → ((y : S) (r : List ℕ) → length r < length s → f y r ≡ g y r) → foldBy w f x s ≡ foldBy w g x s
+fold-local w f g x [] h = refl
+fold-local w f g x (b ∷ s) h = by-read (readEvent (b ∷ s))
     (λ e r q.
-    fold-got w f x n (b ∷ s) r e (omega arith) q
-    ∙ ap (w .event n x e) (h (w .after x e) (n + 1) r (omega (arith, event-progress (b ∷ s) e r q)))
-    ∙ sym (fold-got w g x n (b ∷ s) r e (omega arith) q))
-    (λ q. fold-broken w f x n (b ∷ s) (omega arith) q ∙ sym (fold-broken w g x n (b ∷ s) (omega arith) q))
+    fold-got w f x (b ∷ s) r e (omega arith) q
+    ∙ ap (w .event x e) (h (w .after x e) r (omega (arith, event-progress (b ∷ s) e r q)))
+    ∙ sym (fold-got w g x (b ∷ s) r e (omega arith) q))
+    (λ q. fold-broken w f x (b ∷ s) (omega arith) q ∙ sym (fold-broken w g x (b ∷ s) (omega arith) q))
 
 piece-local : (f g : Account → ℕ → ℕ → ℕ → Progress) (room : ℕ) (s : List ℕ) (a : Account) (at count n : ℕ)
     → ((b : Account) (x i m : ℕ) → length s - x < length s - at → f b x i m ≡ g b x i m) → pieceBy f room s a at count n ≡ pieceBy g room s a at count n
@@ -92,13 +92,13 @@ piece-local f g room s a at count n h = decide (leb (length s) at)
 
 pub fold-suffices : {S Y : Type 0} (w : Fold S Y) → FoldSuffices w
 unfolding foldIn
-fold-suffices {S} {Y} w x n s =
-    uncounted {X = S × ℕ × List ℕ} {Y = Y} (λ z. length (z .2))
-    (λ f z. foldBy w (λ (y : S) (i : ℕ) (r : List ℕ). f (y, i, r)) (z .0) (z .1) (z .2))
-    (λ k z. foldIn w k (z .0) (z .1) (z .2))
+fold-suffices {S} {Y} w x s =
+    uncounted {X = S × List ℕ} {Y = Y} (λ z. length (z .1))
+    (λ f z. foldBy w (λ (y : S) (r : List ℕ). f (y, r)) (z .0) (z .1))
+    (λ k z. foldIn w k (z .0) (z .1))
     (λ k z. refl)
-    (λ f g z h. fold-local w (λ (y : S) (i : ℕ) (r : List ℕ). f (y, i, r)) (λ (y : S) (i : ℕ) (r : List ℕ). g (y, i, r)) (z .0) (z .1) (z .2) (λ y i r l. h (y, i, r) l))
-    (x, n, s)
+    (λ f g z h. fold-local w (λ (y : S) (r : List ℕ). f (y, r)) (λ (y : S) (r : List ℕ). g (y, r)) (z .0) (z .1) (λ y r l. h (y, r) l))
+    (x, s)
 
 pub counts-suffice : CountsSuffice
 unfolding eventsPiece

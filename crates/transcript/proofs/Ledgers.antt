@@ -42,7 +42,7 @@ module _ (t : Terms) (a : Account) (l : Ledger) (s : Stands t a l) where
 
 -- ---- all lines
 
-pub lines-are : (t : Terms) → validTerms t ≡ true → (k : ℕ) (a : Account) (l : Ledger) (n : ℕ) (s : List ℕ) → Stands t a l → foldIn accountLines k a n s ≡ foldIn (ledgerLines t) k l n s
+pub lines-are : (t : Terms) → validTerms t ≡ true → (k : ℕ) (a : Account) (l : Ledger) (n : ℕ) (s : List ℕ) → Stands t a l → foldIn accountLines k (a, n) s ≡ foldIn (ledgerLines t) k (l, n) s
 unfolding foldIn
 lines-are t v zero a l n s h = closing-is t a l h
 lines-are t v (suc k) a l n [] h = closing-is t a l h
@@ -51,22 +51,22 @@ lines-are t v (suc k) a l n (b ∷ s) h = by-read (readEvent (b ∷ s))
     let f : Refinement t = refinement-holds t v in
     let m : Ledger = ledgerStep t l e .ledger in
     let st : Stands t (stepOf a e .account) m = f .again a l e h in
-    fold-got accountLines (foldIn accountLines k) a n (b ∷ s) r e (omega arith) g
+    fold-got accountLines (foldIn accountLines k) (a, n) (b ∷ s) r e (omega arith) g
     ∙ ap₂ _++_
     (line-is t (stepOf a e .account) m st n (stepOf a e .code) (stepOf a e .value)
     ∙ ap₂ (λ (c w : ℕ). ledgerLine n c w m) (f .code a l e h) (f .value a l e h))
     (lines-are t v k (stepOf a e .account) m (n + 1) r st)
-    ∙ sym (fold-got (ledgerLines t) (foldIn (ledgerLines t) k) l n (b ∷ s) r e (omega arith) g))
+    ∙ sym (fold-got (ledgerLines t) (foldIn (ledgerLines t) k) (l, n) (b ∷ s) r e (omega arith) g))
     (λ g.
-    fold-broken accountLines (foldIn accountLines k) a n (b ∷ s) (omega arith) g
+    fold-broken accountLines (foldIn accountLines k) (a, n) (b ∷ s) (omega arith) g
     ∙ ap₂ _++_ (line-is t a l h n 15 0) (closing-is t a l h)
-    ∙ sym (fold-broken (ledgerLines t) (foldIn (ledgerLines t) k) l n (b ∷ s) (omega arith) g))
+    ∙ sym (fold-broken (ledgerLines t) (foldIn (ledgerLines t) k) (l, n) (b ∷ s) (omega arith) g))
 
 -- ---- from the terms
 
 module _ (t : Terms) (o : Opened) (is : o ≡ openOf t) where
   pub opened : (text : List ℕ) (start : ℕ) → o .code ≡ 0
-      → foldEvents accountLines (o .account) 1 (drop start text) ≡ byTerms allLines (got t (drop start text))
+      → foldEvents accountLines (o .account, 1) (drop start text) ≡ byTerms allLines (got t (drop start text))
   opened text start e =
       let v : validTerms t ≡ true = valid t o is e in
       simp v (rw (ap (λ (p : Opened). p .account) is) (lines-are t v (suc (length (drop start text))) (fresh t) opening 1 (drop start text) (refinement-holds t v .opens)))

@@ -88,8 +88,8 @@ module _ (text : List ℕ) (a : Account) (start k : ℕ) (first out : List ℕ) 
 
       line-by-line : linesFrom text b at count ≡ accountLine (count + 1) (q .code) (q .value) (q .account .totals) ++ linesFrom text (q .account) next (count + 1)
       line-by-line = rw eq
-          (counts-suffice .account-lines b (count + 1) (drop at text)
-          ∙ fold-got accountLines (foldEvents accountLines) b (count + 1) (drop at text) (drop next text) e (some h) g′)
+          (counts-suffice .account-lines (b, count + 1) (drop at text)
+          ∙ fold-got accountLines (foldEvents accountLines) (b, count + 1) (drop at text) (drop next text) e (some h) g′)
 
 -- ---- how it ends
 
@@ -111,11 +111,11 @@ module _ (text : List ℕ) (p : Progress) (first out : List ℕ) (b : Account) (
       (λ f. (c, far .0, far .1, omega arith, g .low))
 
   -- the last piece
-  module _ (after more : List ℕ) (r : ℕ) (w : Wrote out place more after r) (e : foldBy accountLines (foldEvents accountLines) b (count + 1) (drop at text) ≡ more)
+  module _ (after more : List ℕ) (r : ℕ) (w : Wrote out place more after r) (e : foldBy accountLines (foldEvents accountLines) (b, count + 1) (drop at text) ≡ more)
       (f : pieceBy (pieceFrom (length first) text) (length first) text b at count place ≡ amongEvents b at count r true) where
     closes : Piece text p first after (amongEvents b at count r true)
     closes = piece-of text p (amongEvents b at count r true) (sym (by-events text p (length first) d c counted roomy ∙ g .far ∙ counts-suffice .pieces (length first) text b at count place ∙ f)) (wrote-then (g .wrote) w)
-        (left-then more [] (counts-suffice .account-lines b (count + 1) (drop at text) ∙ e ∙ sym (append-nil more))) (λ x. absurd (true≢false x))
+        (left-then more [] (counts-suffice .account-lines (b, count + 1) (drop at text) ∙ e ∙ sym (append-nil more))) (λ x. absurd (true≢false x))
 
   pub stops : (mid after : List ℕ) (r q : ℕ) → at < length text → 174 ≤ length out - place → readEvent (drop at text) ≡ broken
       → Wrote out place (accountLine (count + 1) 15 0 (b .totals)) mid r → Wrote mid r (accountClosing (b .totals)) after q
@@ -123,12 +123,12 @@ module _ (text : List ℕ) (p : Progress) (first out : List ℕ) (b : Account) (
   stops mid after r q h l g′ w v =
       let same : length out ≡ length first = kept (g .wrote) in
       closes after _ q (wrote-then w v)
-      (fold-broken accountLines (foldEvents accountLines) b (count + 1) (drop at text) (rw (length-drop at text) (omega arith)) g′)
+      (fold-broken accountLines (foldEvents accountLines) (b, count + 1) (drop at text) (rw (length-drop at text) (omega arith)) g′)
       (piece-broken (pieceFrom (length first) text) (length first) text b at count place h (omega arith) g′
       ∙ ap (λ (n : ℕ). amongEvents b at count n true) (sym (v .next ∙ ap (λ (n : ℕ). n + length (accountClosing (b .totals))) (w .next))))
 
   pub ends : (after : List ℕ) (q : ℕ) → length text ≤ at → Wrote out place (accountClosing (b .totals)) after q
       → Piece text p first after (amongEvents b at count q true)
   ends after q h w = closes after _ q w
-      (fold-end accountLines (foldEvents accountLines) b (count + 1) (drop at text) (rw (length-drop at text) (omega arith)))
+      (fold-end accountLines (foldEvents accountLines) (b, count + 1) (drop at text) (rw (length-drop at text) (omega arith)))
       (piece-end (pieceFrom (length first) text) (length first) text b at count place h ∙ ap (λ (n : ℕ). amongEvents b at count n true) (sym (w .next)))

@@ -15,7 +15,7 @@ use Rattle.transcript.specs.Work.{accountLines}
 use Rattle.transcript.specs.Pieces.{pieceBy, pieceFrom}
 
 abbrev pub FoldSuffices : {S Y : Type 0} → Fold S Y → Type 0
-FoldSuffices {S} w = (x : S) (n : ℕ) (s : List ℕ) → foldEvents w x n s ≡ foldBy w (foldEvents w) x n s
+FoldSuffices {S} w = (x : S) (s : List ℕ) → foldEvents w x s ≡ foldBy w (foldEvents w) x s
 
 pub record CountsSuffice : Type 0 where
   -- an event takes bytes, so each equation has one solution

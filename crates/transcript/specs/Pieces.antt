@@ -21,7 +21,7 @@ use Rattle.transcript.specs.declared.Progress.{Progress}
 
 -- the lines of the events from a place of the text on, and the last line
 abbrev pub linesFrom : List ℕ → Account → ℕ → ℕ → List ℕ
-linesFrom s a at count = foldEvents accountLines a (count + 1) (drop at s)
+linesFrom s a at count = foldEvents accountLines (a, count + 1) (drop at s)
 
 -- Whether there is more to print. No call leaves more events than bytes; for such a `Progress` nothing is printed.
 abbrev pub unprinted : Progress → Bool

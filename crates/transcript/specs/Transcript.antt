@@ -1,5 +1,5 @@
 -- What `prepay` prints, as a definition of the bytes it was given, in the ledger's terms (document 01, "Event text").
-use Prim.Native.Nat.{ℕ}
+use Prim.Native.Nat.{ℕ, _+_}
 use mathlib.Core.Bool.{cond}
 use mathlib.Core.List.{List, [], _∷_, _++_}
 use lib.ListN.{length}
@@ -27,14 +27,14 @@ eventLine n code value balance plan =
 unfoldable pub lastLine : ℤ → ℕ → List ℕ
 lastLine sum cost = bytes "settled=" ++ (signed sum ++ (bytes " estimates=" ++ (decimal cost ++ feed ∷ [])))
 
--- the lines of events by what each answers and by the state after it, and the last line: "Code 15 prints its line and no more is read, then
+-- the lines of events with their ordinals, by what each answers and by the state after it, and the last line: "Code 15 prints its line and no more is read, then
 -- the last line."
-abbrev pub lines : {S : Type 0} → (S → Event → S) → (S → Event → ℕ) → (S → Event → ℕ) → (ℕ → ℕ → ℕ → S → List ℕ) → (S → List ℕ) → Fold S (List ℕ)
+abbrev pub lines : {S : Type 0} → (S → Event → S) → (S → Event → ℕ) → (S → Event → ℕ) → (ℕ → ℕ → ℕ → S → List ℕ) → (S → List ℕ) → Fold (S × ℕ) (List ℕ)
 lines {S} after code value line closing = record {
-  after = after;
-  event = λ (n : ℕ) (x : S) (e : Event) (rest : List ℕ). line n (code x e) (value x e) (after x e) ++ rest;
-  malformed = λ (n : ℕ) (x : S). line n 15 0 x ++ closing x;
-  end = closing;
+  after = λ (x : S × ℕ) (e : Event). (after (x .0) e, x .1 + 1);
+  event = λ (x : S × ℕ) (e : Event) (more : List ℕ). line (x .1) (code (x .0) e) (value (x .0) e) (after (x .0) e) ++ more;
+  malformed = λ (x : S × ℕ). line (x .1) 15 0 (x .0) ++ closing (x .0);
+  end = λ (x : S × ℕ). closing (x .0);
 }
 
 -- those of a ledger
@@ -44,7 +44,7 @@ ledgerLine n code value l = eventLine n code value (l .balance) (l .plan)
 abbrev pub ledgerClosing : Terms → Ledger → List ℕ
 ledgerClosing t l = lastLine (settled t (l .list)) (standing t (l .list))
 
-abbrev pub ledgerLines : Terms → Fold Ledger (List ℕ)
+abbrev pub ledgerLines : Terms → Fold (Ledger × ℕ) (List ℕ)
 ledgerLines t =
     lines (λ (l : Ledger) (e : Event). ledgerStep t l e .ledger)
     (λ (l : Ledger) (e : Event). ledgerStep t l e .answer .code)
@@ -67,7 +67,7 @@ byText lines s = cond (ltb longestText (length s)) (termsLine 15) (byTerms lines
 
 -- what `prepay` prints
 abbrev pub allLines : Terms → List ℕ → List ℕ
-allLines t r = foldEvents (ledgerLines t) opening 1 r
+allLines t r = foldEvents (ledgerLines t) (opening, 1) r
 
 unfoldable pub transcript : List ℕ → List ℕ
 transcript s = byText allLines s

@@ -17,7 +17,7 @@ accountLine n code value s = eventLine n code value (balanceOf s) (s .plan)
 abbrev pub accountClosing : Totals → List ℕ
 accountClosing s = lastLine (settledOf s) (s .standing)
 
-abbrev pub accountLines : Fold Account (List ℕ)
+abbrev pub accountLines : Fold (Account × ℕ) (List ℕ)
 accountLines =
     lines (λ (a : Account) (e : Event). stepOf a e .account)
     (λ (a : Account) (e : Event). stepOf a e .code)
