@@ -21,8 +21,8 @@ unfoldable pub decimal : ℕ → List ℕ
 decimal n = digits (suc n) n
 
 -- The equation holds without the count, for every number.
-abbrev pub CountSuffices : Type 0
-CountSuffices = (n : ℕ) → decimal n ≡ digitsBy decimal n
+abbrev pub DigitsSuffice : Type 0
+DigitsSuffice = (n : ℕ) → decimal n ≡ digitsBy decimal n
 
 -- "a negative sum has a leading minus"
 unfoldable pub signed : ℤ → List ℕ

@@ -13,8 +13,8 @@ returns c =
     let first = c .before .before .before .before .before .before .before .before .before .before in
     let usage = c .before .before .before .before .before .before in
     let charges = c .before .before in (
-      wrote-then (first .put-first .ensures .0) (wrote-then (usage .put-usage .ensures .0) (charges .put-charges .ensures .0)),
-      omega (arith, first .put-first .ensures .1, usage .put-usage .ensures .1, charges .put-charges .ensures .1),
+      wrote-then (first .put-payments .ensures .0) (wrote-then (usage .put-usage .ensures .0) (charges .put-charges .ensures .0)),
+      omega (arith, first .put-payments .ensures .1, usage .put-usage .ensures .1, charges .put-charges .ensures .1),
     )
 
 pub put-line-spec : {M : Type 1} → statement M

@@ -12,7 +12,7 @@ unfolding usagePart
 returns c =
     let metered = c .before .before .before .before .before .before .before .before in
     let estimated = c .before .before in
-    (wrote-then (metered .put-pair .ensures .0) (estimated .put-pair2 .ensures .0), omega (arith, metered .put-pair .ensures .1, estimated .put-pair2 .ensures .1))
+    (wrote-then (metered .put-two .ensures .0) (estimated .put-two2 .ensures .0), omega (arith, metered .put-two .ensures .1, estimated .put-two2 .ensures .1))
 
 pub put-usage-spec : {M : Type 1} → statement M
 put-usage-spec =
