@@ -7,7 +7,7 @@ use native.Mathlib.Omega.{arith}
 use lib.ListN.{length, length-append}
 use lib.Dec.{leb, eqb}
 use borrow.Author.Tests.{leb-true}
-use Rattle.scanner.specs.Scanner.{Read, got, broken, then, feed, equals, readLine, after, readValue, isNumber, valueFrom, readNumber, isDateForm, dateValue, readDate, same}
+use Rattle.scanner.specs.Scanner.{Read, got, broken, then, feed, equals, readLine, after, readValue, isNumber, valueFrom, readNumber, same}
 use Rattle.scanner.proofs.Digits.{both-left, both-right}
 
 -- at least n bytes are taken
@@ -84,19 +84,6 @@ module _ (key s : List ℕ) where
   pub number-taken : Taken (length key + 3) s (readNumber key s)
   unfolding readNumber
   number-taken = number-value (readValue key s) value-split
-
-  -- a date's line
-  date-by : (v r : List ℕ) (b : Bool) → length s ≡ length v + (length r + (length key + 2)) → Taken (length key + 2) s (cond b (got (dateValue v) r) broken)
-  date-by v r true h = omega arith
-  date-by v r false h = tt
-
-  date-value : (x : Read (List ℕ)) → Split s (length key + 2) x → Taken (length key + 2) s (then x (λ (v r : List ℕ). cond (isDateForm v) (got (dateValue v) r) broken))
-  date-value (got v r) h = date-by v r (isDateForm v) h
-  date-value broken h = tt
-
-  pub date-taken : Taken (length key + 2) s (readDate key s)
-  unfolding readDate
-  date-taken = date-value (readValue key s) value-split
 
 -- ---- a word
 

@@ -2,35 +2,17 @@
 use mathlib.Core.Path.{_≡_, refl, subst}
 use mathlib.Core.Bool.{Bool, true, false, cond}
 use mathlib.Core.List.{List, [], _∷_}
-use Prim.Native.Nat.{ℕ, _+_, _≤_, _<_}
+use Prim.Native.Nat.{ℕ, _+_, _≤_}
 use native.Mathlib.Omega.{arith}
 use lib.ListN.{length}
 use lib.Dec.{eqb}
 use borrow.Author.Tests.{eqb-true, eqb-false}
-use Rattle.calendar.specs.declared.Date.{Date}
-use Rattle.terms.specs.declared.Terms.{Terms}
 use Rattle.ledger.specs.declared.Event.{Event}
 use Rattle.ledger.proofs.Cases.{decide}
-use Rattle.scanner.specs.Scanner.{bytes, Read, got, broken, then, readValue, readNumber, readDate}
-use Rattle.scanner.proofs.Laws.{Taken, more, fewer, then-taken, Split, value-split, number-taken, date-taken}
-use Rattle.text.specs.Text.{readTerms, FieldLine, sorts, sortIn, linesIn, readSort, stored, readFields, eventOf, readEvent}
+use Rattle.scanner.specs.Scanner.{bytes, Read, got, broken, then, readValue, readNumber}
+use Rattle.scanner.proofs.Laws.{Taken, more, fewer, then-taken, Split, value-split, number-taken}
+use Rattle.text.specs.Text.{FieldLine, sorts, sortIn, linesIn, readSort, stored, readFields, eventOf, readEvent}
 use Rattle.text.proofs.Sorts.{least, long}
-
--- ---- the terms
-
-terms-taken : (s : List ℕ) → Taken 41 s (readTerms s)
-unfolding readTerms
-terms-taken s =
-    then-taken 6 35 s (readDate (bytes "open") s) _ (date-taken (bytes "open") s) (λ (o : Date) (s₁ : List ℕ).
-    then-taken 8 27 s₁ (readNumber (bytes "price") s₁) _ (number-taken (bytes "price") s₁) (λ (p : ℕ) (s₂ : List ℕ).
-    then-taken 10 17 s₂ (readNumber (bytes "connect") s₂) _ (number-taken (bytes "connect") s₂) (λ (c : ℕ) (s₃ : List ℕ).
-    then-taken 9 8 s₃ (readNumber (bytes "cutoff") s₃) _ (number-taken (bytes "cutoff") s₃) (λ (f : ℕ) (s₄ : List ℕ).
-    then-taken 8 0 s₄ (readNumber (bytes "share") s₄) _ (number-taken (bytes "share") s₄) (λ (h : ℕ) (s₅ : List ℕ). omega arith)))))
-
-pub terms-progress : (s : List ℕ) (t : Terms) (r : List ℕ) → readTerms s ≡ got t r → length r < length s
-terms-progress s t r h = let g : length r + 41 ≤ length s = subst (Taken 41 s) h (terms-taken s) in omega arith
-
--- ---- the fields and the event
 
 asked-taken : (t : Bool) (s : List ℕ) (x y : Read Event) → Taken 0 s x → Taken 0 s y → Taken 0 s (cond t x y)
 asked-taken true s x y h g = h

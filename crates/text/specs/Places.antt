@@ -5,29 +5,13 @@ use mathlib.Core.Bool.{cond}
 use mathlib.Core.List.{List, [], _∷_}
 use lib.ListN.{length, drop}
 use lib.Dec.{eqb}
-use Rattle.calendar.specs.declared.Date.{Date}
-use Rattle.terms.specs.declared.Terms.{Terms}
 use Rattle.ledger.specs.declared.Event.{Event}
-use Rattle.scanner.specs.Scanner.{bytes, Read, got, broken, then, readNumber, same}
+use Rattle.scanner.specs.Scanner.{got, broken, same}
 use Rattle.scanner.specs.declared.NumberRead.{NumberRead}
 use Rattle.scanner.specs.declared.NumberRead.the-variants as number-read
-use Rattle.text.specs.declared.TermsRead.{TermsRead}
-use Rattle.text.specs.declared.TermsRead.the-variants as terms-read
 use Rattle.text.specs.declared.EventRead.{EventRead}
 use Rattle.text.specs.declared.EventRead.the-variants as event-read
 use Rattle.text.specs.Text.{FieldLine, readSort, readFields}
-
--- the terms of an opening date and a price, from the line of `connect` on
-unfoldable pub readBalances : Date → ℕ → List ℕ → Read Terms
-readBalances o p s =
-    then (readNumber (bytes "connect") s) (λ (c : ℕ) (s₁ : List ℕ).
-    then (readNumber (bytes "cutoff") s₁) (λ (f : ℕ) (s₂ : List ℕ).
-    then (readNumber (bytes "share") s₂) (λ (h : ℕ) (s₃ : List ℕ).
-    got (record { opened = o; price = p; connect = c; cutoff = f; share = h }) s₃)))
-
-abbrev pub BalancesAt : Date → ℕ → List ℕ → ℕ → TermsRead → Type 0
-BalancesAt o p s at (terms-read.Got t next) = (readBalances o p (drop at s) ≡ got t (drop next s)) × (next ≤ length s)
-BalancesAt o p s at terms-read.Broken = readBalances o p (drop at s) ≡ broken
 
 -- the sort found so far, or else that of a word, if the value is it
 unfoldable pub foundOr : ℕ → List ℕ → List ℕ → ℕ → ℕ

@@ -1,6 +1,5 @@
 // Event text: the terms and one event, read from its lines.
 // It uses the scanner of the lines, the ledger's event, the terms and the calendar's date. Its promises cite specs/Text.antt, and inside the crate specs/Places.antt.
-use calendar::Date;
 use ledger::Event;
 use scanner::DateRead;
 use scanner::NumberRead;
@@ -11,7 +10,7 @@ ghost use mathlib.Core.List.{[], _∷_};
 ghost use Prim.Native.Nat.{_≤_};
 ghost use lib.ListN.{length};
 ghost use Rattle.text.specs.Text.{TermsAt, EventAt, fieldLine, sorts, sortIn, linesIn, stored};
-ghost use Rattle.text.specs.Places.{BalancesAt, foundOr, SortAt, FieldsAt, NextAt};
+ghost use Rattle.text.specs.Places.{foundOr, SortAt, FieldsAt, NextAt};
 
 // The bytes of the longest text.
 pub const LONGEST: usize = 65536;
@@ -51,17 +50,10 @@ pub fn read_terms(text: &[u8]) -> TermsRead
     let NumberRead::Got { value: price, next } = scanner::read_number(text, next, b"price") else {
         return TermsRead::Broken;
     };
-    read_balances(text, next, opened, price)
-}
-
-// The terms of an opening date and a price, from the line of `connect` on.
-fn read_balances(text: &[u8], at: usize, opened: Date, price: u32) -> TermsRead
-    ensures { λ r. ⌜ BalancesAt opened price (now (text .entry)) at r ⌝ }
-{
     let NumberRead::Got {
         value: connect,
         next,
-    } = scanner::read_number(text, at, b"connect")
+    } = scanner::read_number(text, next, b"connect")
     else {
         return TermsRead::Broken;
     };
@@ -184,17 +176,17 @@ fn read_fields(text: &[u8], at: usize, event: Event) -> EventRead
         1 | 3 => read_field(text, at, b"amount", Field::Amount, event),
         2 => read_field(text, at, b"number", Field::Number, event),
         4 => {
-            let kind = read_field(text, at, b"kind", Field::Kind, event);
-            read_next(text, kind, b"amount", Field::Amount)
+            let charge = read_field(text, at, b"kind", Field::Kind, event);
+            read_next(text, charge, b"amount", Field::Amount)
         }
         5 | 6 => {
-            let usage = read_field(text, at, b"usage", Field::Usage, event);
-            read_next(text, usage, b"wh", Field::Wh)
+            let used = read_field(text, at, b"usage", Field::Usage, event);
+            read_next(text, used, b"wh", Field::Wh)
         }
         8 => {
-            let kind = read_field(text, at, b"kind", Field::Kind, event);
-            let from = read_next(text, kind, b"from", Field::From);
-            read_next(text, from, b"to", Field::To)
+            let mark = read_field(text, at, b"kind", Field::Kind, event);
+            let mark = read_next(text, mark, b"from", Field::From);
+            read_next(text, mark, b"to", Field::To)
         }
         9 => read_field(text, at, b"kind", Field::Kind, event),
         _ => EventRead::Got { event, next: at },

@@ -5,7 +5,6 @@ use mathlib.Core.List.{List}
 use lib.ListN.{length}
 use Rattle.terms.specs.declared.Terms.{Terms}
 use Rattle.ledger.specs.declared.Event.{Event}
-use Rattle.ledger.specs.Rules.{Ledger}
 use Rattle.account.specs.declared.Account.{Account}
 use Rattle.scanner.specs.Scanner.{got}
 use Rattle.text.specs.Text.{readEvent}

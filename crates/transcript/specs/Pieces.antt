@@ -8,8 +8,6 @@ use lib.Dec.{eqb, leb, ltb}
 use Rattle.terms.specs.declared.Terms.{Terms}
 use Rattle.account.specs.Head.{stepOf, openOf}
 use Rattle.account.specs.declared.Account.{Account}
-use Rattle.account.specs.declared.Opened.{Opened}
-use Rattle.account.specs.declared.Posted.{Posted}
 use Rattle.scanner.specs.Scanner.{got, broken}
 use Rattle.text.specs.Text.{longestText, readTerms, readEvent}
 use Rattle.transcript.specs.Transcript.{termsLine, transcript}

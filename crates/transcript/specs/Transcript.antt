@@ -9,7 +9,7 @@ use Rattle.terms.specs.Terms.{validTerms}
 use Rattle.terms.specs.declared.Terms.{Terms}
 use Rattle.ledger.specs.declared.Event.{Event}
 use Rattle.ledger.specs.Rules.{Ledger}
-use Rattle.ledger.specs.Ledger.{Outcome, opening, ledgerStep}
+use Rattle.ledger.specs.Ledger.{opening, ledgerStep}
 use Rattle.ledger.specs.Sums.{settled, standing}
 use Rattle.scanner.specs.Scanner.{bytes, feed, Read, got, broken}
 use Rattle.text.specs.Text.{longestText, readTerms}

@@ -5,7 +5,6 @@ use Rattle.ledger.specs.declared.Event.{Event}
 use Rattle.account.specs.Head.{stepOf}
 use Rattle.moves.specs.declared.Totals.{Totals}
 use Rattle.account.specs.declared.Account.{Account}
-use Rattle.account.specs.declared.Posted.{Posted}
 use Rattle.readings.specs.Readings.{balanceOf, settledOf}
 use Rattle.transcript.specs.Events.{Fold}
 use Rattle.transcript.specs.Transcript.{eventLine, lastLine, lines}
