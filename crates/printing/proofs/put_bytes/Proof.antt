@@ -19,9 +19,6 @@ Inv-loop out₀ at bytes count i₀ out i = (i ≤ length bytes) × (at + length
 abbrev μ-loop : tie.MeasureT-loop
 μ-loop out₀ at bytes count i₀ out i = length bytes - i
 
-returns : tie.Need-returns Inv-loop μ-loop
-returns c = puts-nothing _ _ _ (sym (c .before .room .ensures) ∙ not-true _ (c .if1 .taken))
-
 loop-holds : tie.Need-loop-holds Inv-loop μ-loop
 loop-holds c =
     let a = c .before .before .before .before .args in
@@ -59,7 +56,7 @@ put-bytes-spec =
     Inv-loop
     μ-loop
     (λ c κs. search needs)
-    returns
+    (λ c. puts-nothing _ _ _ (sym (c .before .room .ensures) ∙ not-true _ (c .if1 .taken)))
     loop-holds
     (λ c. omega arith)
     (λ c. omega arith)

@@ -36,9 +36,6 @@ add-room c =
     let s = c .before .before .before in
     omega (arith, c .places .ensures, length-decimal (s .args .n) (s .fits .n .fits), s .good)
 
-returns : tie.Need-returns
-returns c = puts-nothing _ _ _ (sym (tested (c .before)) ∙ not-true _ (c .if1 .taken))
-
 add-end : tie.Need-add-end
 add-end c =
     let put = c .before .before in
@@ -64,7 +61,7 @@ put-field-spec =
     (λ c κs. search needs)
     add-room
     (λ c κs. search needs)
-    returns
+    (λ c. puts-nothing _ _ _ (sym (tested (c .before)) ∙ not-true _ (c .if1 .taken)))
     (λ c κs. search needs)
     add-end
     spell-requires

@@ -59,24 +59,6 @@ returns c =
     let s = m .before .before .before in
     rw (signed-above (s .args .z) (s .fits .z) (above .if1 .taken), sym (size m)) (c .before .before .put-field .ensures)
 
-add-room : tie.Need-add-room
-add-room c = omega (arith, wanted c)
-
-add-room-2 : tie.Need-add-room-2
-add-room-2 c = omega (arith, wanted c)
-
-returns-2 : tie.Need-returns-2
-returns-2 c = puts-nothing _ _ _ (sym (tested (c .before)) ∙ not-true _ (c .if2 .taken))
-
-slice-write-out : tie.Need-slice-write-out
-slice-write-out c = omega (arith, left (c .before .before))
-
-add-first : tie.Need-add-first
-add-first c = omega (arith, end (c .before .before))
-
-add-end : tie.Need-add-end
-add-end c = omega (arith, end (c .before .before))
-
 spell-requires : tie.Need-spell-requires
 spell-requires c κs =
     let put = c .before .before .before in
@@ -107,14 +89,14 @@ put-sum-spec =
     (λ c. search needs)
     returns
     (λ c κs. search needs)
-    add-room
-    add-room-2
+    (λ c. omega (arith, wanted c))
+    (λ c. omega (arith, wanted c))
     (λ c κs. search needs)
-    returns-2
+    (λ c. puts-nothing _ _ _ (sym (tested (c .before)) ∙ not-true _ (c .if2 .taken)))
     (λ c κs. search needs)
-    slice-write-out
-    add-first
-    add-end
+    (λ c. omega (arith, left (c .before .before)))
+    (λ c. omega (arith, end (c .before .before)))
+    (λ c. omega (arith, end (c .before .before)))
     spell-requires
     same-length-2
     returns-3)

@@ -17,12 +17,6 @@ Inv-loop out₀ at end n i₀ rest₀ out i rest =
 abbrev μ-loop : tie.MeasureT-loop
 μ-loop out₀ at end n i₀ rest₀ out i rest = rest
 
-sub-i : tie.Need-sub-i Inv-loop μ-loop
-sub-i c = omega (arith, some-digit (c .args .n))
-
-loop-holds : tie.Need-loop-holds Inv-loop μ-loop
-loop-holds c = (omega (arith, some-digit (c .args .n)), omega arith, refl, refl)
-
 sub-i-2 : tie.Need-sub-i-2 Inv-loop μ-loop
 sub-i-2 c = omega (arith, length-high (c .before .loop .rest) (c .loop-test .taken), some-digit (c .before .loop .rest / 10))
 
@@ -40,9 +34,6 @@ loop-again c =
           ∙ l .inv .3),
     )
 
-same-length : tie.Need-same-length Inv-loop μ-loop
-same-length c = simp length-set (c .before .loop .inv .2)
-
 returns : tie.Need-returns Inv-loop μ-loop
 returns c =
     let a = c .before .before .args in
@@ -57,8 +48,8 @@ spell-spec =
     (tie.spec
     Inv-loop
     μ-loop
-    sub-i
-    loop-holds
+    (λ c. omega (arith, some-digit (c .args .n)))
+    (λ c. (omega (arith, some-digit (c .args .n)), omega arith, refl, refl))
     (λ c. omega arith)
     (λ c. omega arith)
     (λ c. omega arith)
@@ -68,5 +59,5 @@ spell-spec =
     (λ c. omega arith)
     (λ c. omega arith)
     (λ c. omega arith)
-    same-length
+    (λ c. simp length-set (c .before .loop .inv .2))
     returns)

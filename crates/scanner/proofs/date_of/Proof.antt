@@ -4,12 +4,6 @@ use Rattle.scanner.proofs.Dates.{other-size, no-first-hyphen, no-second
 use Rattle.scanner.proofs.date_of.Statement.{statement}
 use Rattle.scanner.proofs.date_of.Tie as tie
 
-returns : tie.Need-returns
-returns c = other-size _ _ (c .if1 .taken)
-
-returns-2 : tie.Need-returns-2
-returns-2 c = no-first-hyphen _ _ (c .before .before .if1 .left) (c .if2 .taken)
-
 returns-3 : tie.Need-returns-3
 returns-3 c = no-second-hyphen _ _ (c .before .before .before .before .if1 .left) (c .before .before .if2 .left) (c .if3 .taken)
 
@@ -46,9 +40,9 @@ pub date-of-spec : {M : Type 1} → statement M
 date-of-spec =
     tie.close
     (tie.spec
-    returns
+    (λ c. other-size _ _ (c .if1 .taken))
     (λ c. search needs)
-    returns-2
+    (λ c. no-first-hyphen _ _ (c .before .before .if1 .left) (c .if2 .taken))
     (λ c. search needs)
     returns-3
     (λ c κs. search needs)

@@ -17,15 +17,6 @@ returns c =
     let a = c .before .before .before .before .before .args in
     no-date (a .key .now) (a .text .now) (a .at) (subst (ValueAt _ _ _) (c .enum-told .given .1) (c .before .before .read-value .ensures))
 
-sub-date-of : tie.Need-sub-date-of
-sub-date-of c = omega (arith, valued (c .before))
-
-part-date-of-start : tie.Need-part-date-of-start
-part-date-of-start c = omega (arith, valued (c .before))
-
-part-date-of-end : tie.Need-part-date-of-end
-part-date-of-end c = omega (arith, valued (c .before))
-
 returns-2 : tie.Need-returns-2
 returns-2 c =
     let v = valued (c .before .before .before) in
@@ -40,8 +31,8 @@ read-date-spec =
     (λ c. search needs)
     (λ c. search needs)
     returns
-    sub-date-of
-    part-date-of-start
-    part-date-of-end
+    (λ c. omega (arith, valued (c .before)))
+    (λ c. omega (arith, valued (c .before)))
+    (λ c. omega (arith, valued (c .before)))
     (λ c κs. search needs)
     returns-2)

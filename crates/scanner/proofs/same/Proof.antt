@@ -16,12 +16,6 @@ Inv-loop value word i₀ i = (length value ≡ length word) × (same word value 
 abbrev μ-loop : tie.MeasureT-loop
 μ-loop value word i₀ i = length word - i
 
-returns : tie.Need-returns Inv-loop μ-loop
-returns c = sym (other-length _ _ (λ z. omega (arith, c .if1 .taken)))
-
-loop-holds : tie.Need-loop-holds Inv-loop μ-loop
-loop-holds c = (c .if1 .left, refl)
-
 returns-2 : tie.Need-returns-2 Inv-loop μ-loop
 returns-2 c =
     let l = c .before .before .before .before .loop in
@@ -46,8 +40,8 @@ same-spec =
     (tie.spec
     Inv-loop
     μ-loop
-    returns
-    loop-holds
+    (λ c. sym (other-length _ _ (λ z. omega (arith, c .if1 .taken))))
+    (λ c. (c .if1 .left, refl))
     (λ c. search needs)
     (λ c. search needs)
     returns-2

@@ -21,12 +21,6 @@ abbrev μ-loop : tie.MeasureT-loop
 read-as : (c : tie.After-read Inv-loop μ-loop) → EventAt (now (c .before .before .before .before .before .args .text)) (c .before .before .before .loop .at) (Got (c .read .given .0 .0) (c .read .given .0 .1 .0))
 read-as c = rw (c .read .given .1) at (c .before .before .read-event .ensures)
 
-loop-holds : tie.Need-loop-holds Inv-loop μ-loop
-loop-holds c = begins _ _ _ (c .before .pre)
-
-loop-less : tie.Need-loop-less Inv-loop μ-loop
-loop-less c = let e = read-as (c .before .before .before) in omega (arith, e .1, e .2)
-
 loop-again : tie.Need-loop-again Inv-loop μ-loop
 loop-again c =
     let e = read-as (c .before .before .before) in
@@ -41,11 +35,11 @@ post-events-spec =
     (tie.spec
     Inv-loop
     μ-loop
-    loop-holds
+    (λ c. begins _ _ _ (c .before .pre))
     (λ c κs. search needs)
     (λ c. search needs)
     (λ c κs. search needs)
-    loop-less
+    (λ c. let e = read-as (c .before .before .before) in omega (arith, e .1, e .2))
     loop-again
     (λ c. search needs)
     returns)

@@ -15,15 +15,9 @@ use Rattle.statement.proofs.statement.Tie as tie
 read-as : (c : tie.After-read) → TermsAt (now (c .before .before .before .before .before .before .before .args .text)) (Got (c .read .given .0 .0) (c .read .given .0 .1 .0))
 read-as c = rw (c .read .given .1) at (c .before .before .read-terms .ensures)
 
-returns : tie.Need-returns
-returns c = none-put _ _ _ (c .if1 .taken)
-
 returns-2 : tie.Need-returns-2
 unfolding summaries
 returns-2 c = all-put _ _ (c .before .before .before .before .before .if1 .left) (c .before .before .put-refusal .ensures) (too-long allMonths (now (c .before .before .before .before .before .before .before .before .args .text)) (c .before .before .before .before .if2 .taken))
-
-put-account-requires : tie.Need-put-account-requires
-put-account-requires c κs = (read-as (c .before .before) .1, c .before .before .before .before .before .before .if1 .left)
 
 returns-3 : tie.Need-returns-3
 unfolding summaries
@@ -37,13 +31,13 @@ pub statement-spec : {M : Type 1} → statement M
 statement-spec =
     tie.close
     (tie.spec
-    returns
+    (λ c. none-put _ _ _ (c .if1 .taken))
     (λ c κs. search needs)
     (λ c. search needs)
     returns-2
     (λ c κs. search needs)
     (λ c. search needs)
-    put-account-requires
+    (λ c κs. (read-as (c .before .before) .1, c .before .before .before .before .before .before .if1 .left))
     (λ c. search needs)
     (λ c κs. search needs)
     (λ c. search needs)

@@ -26,9 +26,6 @@ returns-2 c =
     let a = d .before .before .before .before .before .args in
     no-sort (a .text .now) (a .at) _ _ (day d) (subst (SortAt _ _) (c .enum-told2 .given .1) (c .before .before .read-sort .ensures))
 
-read-fields-requires : tie.Need-read-fields-requires
-read-fields-requires c κs = sort (c .before) .1
-
 returns-3 : tie.Need-returns-3
 returns-3 c =
     let s = c .before .before in
@@ -49,5 +46,5 @@ read-event-spec =
     (λ c. search needs)
     (λ c. search needs)
     returns-2
-    read-fields-requires
+    (λ c κs. sort (c .before) .1)
     returns-3)

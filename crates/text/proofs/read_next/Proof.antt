@@ -4,11 +4,5 @@ use borrow.Author.Needs.{needs}
 use Rattle.text.proofs.read_next.Statement.{statement}
 use Rattle.text.proofs.read_next.Tie as tie
 
-returns : tie.Need-returns
-returns c = rw (c .enum-told .given .1) refl
-
-returns-2 : tie.Need-returns-2
-returns-2 c = rw (c .before .before .read .given .1) (c .read-field .ensures)
-
 pub read-next-spec : {M : Type 1} → statement M
-read-next-spec = tie.close (tie.spec (λ c. search needs) (λ c. search needs) returns (λ c κs. search needs) returns-2)
+read-next-spec = tie.close (tie.spec (λ c. search needs) (λ c. search needs) (λ c. rw (c .enum-told .given .1) refl) (λ c κs. search needs) (λ c. rw (c .before .before .read .given .1) (c .read-field .ensures)))

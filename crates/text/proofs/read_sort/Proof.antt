@@ -12,18 +12,6 @@ use Rattle.text.proofs.read_sort.Tie as tie
 valued : (c : tie.After-from) → let a = c .before .before .before .before .before .args in ValueAt (bytes "do") (a .text .now) (a .at) (Got (c .from .given .0 .0) (c .from .given .0 .1 .0) (c .from .given .0 .1 .1 .0))
 valued c = subst (ValueAt _ _ _) (c .from .given .1) (c .before .before .read-value .ensures)
 
-returns : tie.Need-returns
-returns c = no-do _ (subst (ValueAt _ _ _) (c .enum-told .given .1) (c .before .before .read-value .ensures))
-
-sub-sort-of : tie.Need-sub-sort-of
-sub-sort-of c = omega (arith, valued (c .before))
-
-part-sort-of-start : tie.Need-part-sort-of-start
-part-sort-of-start c = omega (arith, valued (c .before))
-
-part-sort-of-end : tie.Need-part-sort-of-end
-part-sort-of-end c = omega (arith, valued (c .before))
-
 returns-2 : tie.Need-returns-2
 returns-2 c = no-word _ _ _ (valued (c .before .before .before .before) .0) _ (c .before .sort-of .ensures) (c .if1 .taken)
 
@@ -40,10 +28,10 @@ read-sort-spec =
     (λ c κs. search needs)
     (λ c. search needs)
     (λ c. search needs)
-    returns
-    sub-sort-of
-    part-sort-of-start
-    part-sort-of-end
+    (λ c. no-do _ (subst (ValueAt _ _ _) (c .enum-told .given .1) (c .before .before .read-value .ensures)))
+    (λ c. omega (arith, valued (c .before)))
+    (λ c. omega (arith, valued (c .before)))
+    (λ c. omega (arith, valued (c .before)))
     (λ c κs. search needs)
     returns-2
     returns-3)

@@ -27,23 +27,8 @@ read-as c = rw (c .read .given .1) at (c .before .before .read-event .ensures)
 enters : (c : tie.After-move-of Inv-loop μ-loop) → let b = c .before .before .before .before .before .before .before .before .before .before .before .before .before .before .before .before .before .loop .b in let e = c .before .before .before .before .before .before .before .before .before .before .before .before .read .given .0 .0 in Enters b (usedAt e) (dayAt e) (c .move-of .result) (stepOf b e)
 enters c = rw (c .move-of .ensures) (entered _ _)
 
-loop-holds : tie.Need-loop-holds Inv-loop μ-loop
-loop-holds c = begins _ _ _ _ _ (c .before .before .before .pre .3) (c .before .before .before .pre .2)
-
-sub-if1 : tie.Need-sub-if1 Inv-loop μ-loop
-sub-if1 c = omega (arith, c .before .loop .inv .room)
-
-same-length : tie.Need-same-length Inv-loop μ-loop
-same-length c = sized _ _ _ _ _ _ _ _ _ _ (c .before .before .loop .inv)
-
 returns : tie.Need-returns Inv-loop μ-loop
 returns c = pauses _ _ _ _ _ _ _ _ (c .before .before .loop .inv) (c .before .before .before .before .before .before .pre .0) (c .before .before .before .before .before .before .pre .1) (c .before .before .before .before .before .before .pre .2) (c .before .before .before .before .before .before .pre .3) (c .before .loop-test .taken) (c .if1 .taken)
-
-element-set-from-paid : tie.Need-element-set-from-paid Inv-loop μ-loop
-element-set-from-paid c = enters (c .before .before .before) .number
-
-element-write-b : tie.Need-element-write-b Inv-loop μ-loop
-element-write-b c = enters (c .before .before .before .before .before) .place
 
 add-count : tie.Need-add-count Inv-loop μ-loop
 add-count c = omega (arith, c .before .before .before .before .before .before .before .before .before .before .before .before .before .before .before .before .before .before .before .before .before .before .before .before .before .loop .inv .counted, c .before .before .before .before .before .before .before .before .before .before .before .before .before .before .before .before .before .before .before .before .before .before .before .before .loop-test .taken, c .before .before .before .before .before .before .before .before .before .before .before .before .before .before .before .before .before .before .before .before .before .before .before .before .before .before .before .before .before .good)
@@ -72,9 +57,6 @@ same-length-2 c = c .before .before .put-closing .kept .0 ∙ c .before .before 
 returns-2 : tie.Need-returns-2 Inv-loop μ-loop
 returns-2 c = stops _ _ _ _ _ _ _ _ (c .before .before .before .before .before .before .before .before .before .before .before .before .before .before .loop .inv) (c .before .before .before .before .before .before .before .before .before .before .before .before .before .before .before .before .before .before .pre .0) (c .before .before .before .before .before .before .before .before .before .before .before .before .before .before .before .before .before .before .pre .1) (c .before .before .before .before .before .before .before .before .before .before .before .before .before .before .before .before .before .before .pre .2) (c .before .before .before .before .before .before .before .before .before .before .before .before .before .before .before .before .before .before .pre .3) _ _ _ _ (c .before .before .before .before .before .before .before .before .before .before .before .before .before .loop-test .taken) (c .before .before .before .before .before .before .before .before .before .before .before .before .if1 .left) (rw (c .before .before .before .before .before .before .before .before .before .enum-told .given .1) at (c .before .before .before .before .before .before .before .before .before .before .before .read-event .ensures)) (c .before .before .before .before .before .before .put-event2 .ensures .0) (c .before .before .put-closing .ensures)
 
-put-closing-requires-2 : tie.Need-put-closing-requires-2 Inv-loop μ-loop
-put-closing-requires-2 c κs = c .before .before .before .loop .inv .room
-
 same-length-3 : tie.Need-same-length-3 Inv-loop μ-loop
 same-length-3 c = c .before .before .put-closing2 .kept .0 ∙ sized _ _ _ _ _ _ _ _ _ _ (c .before .before .before .before .before .before .loop .inv)
 
@@ -87,9 +69,9 @@ put-events-spec =
     (tie.spec
     Inv-loop
     μ-loop
-    loop-holds
-    sub-if1
-    same-length
+    (λ c. begins _ _ _ _ _ (c .before .before .before .pre .3) (c .before .before .before .pre .2))
+    (λ c. omega (arith, c .before .loop .inv .room))
+    (λ c. sized _ _ _ _ _ _ _ _ _ _ (c .before .before .loop .inv))
     returns
     (λ c κs. search needs)
     (λ c. search needs)
@@ -102,12 +84,12 @@ put-events-spec =
     (λ c κs. search needs)
     (λ c. search needs)
     (λ c. search needs)
-    element-set-from-paid
+    (λ c. enters (c .before .before .before) .number)
     (λ c. search needs)
     (λ c. search needs)
     (λ c. search needs)
     (λ c. search needs)
-    element-write-b
+    (λ c. enters (c .before .before .before .before .before) .place)
     (λ c. search needs)
     (λ c. search needs)
     (λ c κs. search needs)
@@ -121,6 +103,6 @@ put-events-spec =
     put-closing-requires
     same-length-2
     returns-2
-    put-closing-requires-2
+    (λ c κs. c .before .before .before .loop .inv .room)
     same-length-3
     returns-3)
