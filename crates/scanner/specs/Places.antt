@@ -10,7 +10,7 @@ use Rattle.scanner.specs.declared.NumberRead.{NumberRead}
 use Rattle.scanner.specs.declared.NumberRead.the-variants as number-read
 use Rattle.scanner.specs.declared.DateRead.{DateRead}
 use Rattle.scanner.specs.declared.DateRead.the-variants as date-read
-use Rattle.scanner.specs.Scanner.{Read, got, broken, then, equals, readLine, after, isDigit, valueFrom, isNumber, isDateForm, areDigits, twoDigits, dateValue, between}
+use Rattle.scanner.specs.Scanner.{bytes, Read, got, broken, then, readLine, afterPrefix, isDigit, valueFrom, isNumber, isDateForm, areDigits, twoDigits, dateValue, between}
 
 -- ---- bytes by themselves
 
@@ -34,8 +34,8 @@ numberLine s = then (readLine s) (λ (v r : List ℕ). cond (isNumber v) (got (v
 
 -- where the value of the line at a place starts: after the key and the equals sign
 abbrev pub StartAt : List ℕ → List ℕ → ℕ → Position → Type 0
-StartAt key s at (position.At from) = (after (key ++ equals ∷ []) (drop at s) ≡ got (drop from s) []) × (from ≤ length s)
-StartAt key s at position.Missing = after (key ++ equals ∷ []) (drop at s) ≡ broken
+StartAt key s at (position.At from) = (afterPrefix (key ++ bytes "=") (drop at s) ≡ got (drop from s) []) × (from ≤ length s)
+StartAt key s at position.Missing = afterPrefix (key ++ bytes "=") (drop at s) ≡ broken
 
 -- the first line feed from a place on
 abbrev pub FeedAt : List ℕ → ℕ → Position → Type 0

@@ -34,12 +34,9 @@ then broken f = broken
 
 -- ---- lines
 
--- a line feed; an equals sign; a hyphen
+-- a line feed; a hyphen
 abbrev pub feed : ℕ
 feed = 10
-
-abbrev pub equals : ℕ
-equals = 61
 
 abbrev pub hyphen : ℕ
 hyphen = 45
@@ -50,14 +47,14 @@ readLine [] = broken
 readLine (b ∷ s) = cond (eqb b feed) (got [] s) (then (readLine s) (λ (l r : List ℕ). got (b ∷ l) r))
 
 -- what stands after the prefix
-unfoldable pub after : List ℕ → List ℕ → Read (List ℕ)
-after [] s = got s []
-after (p ∷ ps) [] = broken
-after (p ∷ ps) (b ∷ s) = cond (eqb p b) (after ps s) broken
+unfoldable pub afterPrefix : List ℕ → List ℕ → Read (List ℕ)
+afterPrefix [] s = got s []
+afterPrefix (p ∷ ps) [] = broken
+afterPrefix (p ∷ ps) (b ∷ s) = cond (eqb p b) (afterPrefix ps s) broken
 
 -- "Lines `key=value`, each ended by one line feed": what stands after the key and the equals sign, up to the line feed
 unfoldable pub readValue : List ℕ → List ℕ → Read (List ℕ)
-readValue key s = then (after (key ++ equals ∷ []) s) (λ (rest none : List ℕ). readLine rest)
+readValue key s = then (afterPrefix (key ++ bytes "=") s) (λ (rest none : List ℕ). readLine rest)
 
 -- ---- numbers
 

@@ -41,7 +41,7 @@ fn line_end(text: &[u8], at: usize) -> Position
 {
     let mut i = at;
     while i < text.len() {
-        if text[i] == 10 {
+        if text[i] == b'\n' {
             return Position::At(i);
         }
         i += 1;
@@ -68,7 +68,7 @@ fn value_start(text: &[u8], at: usize, key: &[u8]) -> Position
     if j >= text.len() {
         return Position::Missing;
     }
-    if text[j] != 61 {
+    if text[j] != b'=' {
         return Position::Missing;
     }
     Position::At(j + 1)
@@ -94,10 +94,10 @@ pub fn read_value(text: &[u8], at: usize, key: &[u8]) -> ValueRead
 fn digit(byte: u8) -> u64
     ensures { λ r. ⌜ r ≡ digitOf byte ⌝ }
 {
-    if byte < 48 {
+    if byte < b'0' {
         return 10;
     }
-    if byte > 57 {
+    if byte > b'9' {
         return 10;
     }
     byte as u64 - 48
@@ -113,7 +113,7 @@ fn number_from(text: &[u8], from: usize) -> NumberRead
         let byte = text[i];
         let d = digit(byte);
         if d > 9 {
-            if byte != 10 {
+            if byte != b'\n' {
                 return NumberRead::Broken;
             }
             if i == from {
@@ -173,10 +173,10 @@ fn date_of(value: &[u8], next: usize) -> DateRead
     if value.len() != 10 {
         return DateRead::Broken;
     }
-    if value[4] != 45 {
+    if value[4] != b'-' {
         return DateRead::Broken;
     }
-    if value[7] != 45 {
+    if value[7] != b'-' {
         return DateRead::Broken;
     }
     let century = two_digits(value, 0);

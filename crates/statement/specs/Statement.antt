@@ -58,6 +58,10 @@ summaryRoom = paymentsRoom + usageRoom + chargesRoom
 abbrev pub statementRoom : ℕ
 statementRoom = 8192
 
+-- months 0 to 14
+abbrev pub monthCount : ℕ
+monthCount = 15
+
 -- the lines of months 0 to n - 1
 unfoldable pub monthLines : (ℕ → Summary) → ℕ → List ℕ
 monthLines f zero = []
@@ -68,7 +72,7 @@ monthLines f (suc n) = monthLines f n ++ summaryLine n (f n)
 -- the events that stand in the bytes, up to the end or to the first that breaks the form
 abbrev pub eventList : Fold Unit (List Event)
 eventList = record {
-  after = λ (x : Unit) (e : Event). x;
+  step = λ (x : Unit) (e : Event). x;
   event = λ (x : Unit) (e : Event) (more : List Event). e ∷ more;
   malformed = λ (x : Unit). [];
   end = λ (x : Unit). [];
@@ -82,7 +86,7 @@ abbrev pub EventsSuffice : Type 0
 EventsSuffice = (s : List ℕ) → eventsOf s ≡ foldBy eventList (foldEvents eventList) tt s
 
 abbrev pub allMonths : Terms → List ℕ → List ℕ
-allMonths t r = monthLines (ledgerSummary t (ledgerOf t (eventsOf r) .list)) 15
+allMonths t r = monthLines (ledgerSummary t (ledgerOf t (eventsOf r) .list)) monthCount
 
 -- Refused or malformed terms print the one line that `prepay` prints for them.
 unfoldable pub summaries : List ℕ → List ℕ

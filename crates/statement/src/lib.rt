@@ -16,10 +16,13 @@ ghost use Rattle.printing.specs.Printing.{Wrote};
 ghost use Rattle.refinement.specs.Lists.{accountAfter};
 ghost use Rattle.months.specs.Summary.{summaryOf};
 ghost use Rattle.transcript.specs.Transcript.{termsLine, byTerms};
-ghost use Rattle.statement.specs.Statement.{twoFields, paymentsPart, usagePart, chargesPart, summaryLine, paymentsRoom, usageRoom, chargesRoom, summaryRoom, statementRoom, monthLines, eventsOf, EventsSuffice, allMonths, WholeStatement};
+ghost use Rattle.statement.specs.Statement.{twoFields, paymentsPart, usagePart, chargesPart, summaryLine, paymentsRoom, usageRoom, chargesRoom, summaryRoom, statementRoom, monthCount, monthLines, eventsOf, EventsSuffice, allMonths, WholeStatement};
 
 // A buffer that holds any statement.
 const STATEMENT_ROOM: usize = 8192;
+
+// Months 0 to 14.
+const MONTHS: u32 = 15;
 
 // ---- one line
 
@@ -127,11 +130,11 @@ fn put_line(out: &mut [u8], at: usize, m: u32, s: Summary) -> usize
 // The lines of months 0 to 14.
 fn put_months(out: &mut [u8], a: Account) -> usize
     requires { ⌜ statementRoom ≤ length (now out) ⌝ }
-    ensures { λ r. ⌜ Wrote (now (out .entry)) 0 (monthLines (λ (m : ℕ). summaryOf a m) 15) (now (out .exit)) r ⌝ }
+    ensures { λ r. ⌜ Wrote (now (out .entry)) 0 (monthLines (λ (m : ℕ). summaryOf a m) monthCount) (now (out .exit)) r ⌝ }
 {
     let mut m: u32 = 0;
     let mut place: usize = 0;
-    while m < 15 {
+    while m < MONTHS {
         let s = months::summary(a, m);
         place = put_line(out, place, m, s);
         m += 1;

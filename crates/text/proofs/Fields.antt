@@ -11,7 +11,7 @@ use lib.ListN.{length, drop}
 use Rattle.ledger.specs.declared.Event.{Event}
 use Rattle.scanner.specs.Scanner.{Read, got, broken, then, readNumber, NumberAt}
 use Rattle.scanner.specs.declared.NumberRead.the-variants as number-read
-use Rattle.text.specs.Text.{FieldLine, fieldLine, sorts, linesIn, stored, readFields}
+use Rattle.text.specs.Text.{FieldLine, fieldLine, sorts, fieldsIn, stored, readFields}
 use Rattle.text.specs.Places.{FieldsAt, NextAt}
 use Rattle.text.specs.declared.Field.{Field}
 use Rattle.text.specs.declared.EventRead.{EventRead}
@@ -57,10 +57,10 @@ both true x = refl
 both false x = refl
 
 module _ (n : ℕ) where
-  pub of-reading : 5 ≤ n → n < 7 → linesIn sorts n ≡ linesIn sorts 5
+  pub of-reading : 5 ≤ n → n < 7 → fieldsIn sorts n ≡ fieldsIn sorts 5
   of-reading l h = elim (eq-or-lt-of-le l) [ inl e ↦ rw (sym e) | inr g ↦ let e : n ≡ 6 = omega arith in rw e ]
 
-  pub of-none : (n ≡ 1 → ⊥) → (n ≡ 2 → ⊥) → (n ≡ 3 → ⊥) → (n ≡ 4 → ⊥) → (n ≡ 5 → ⊥) → (n ≡ 6 → ⊥) → (n ≡ 8 → ⊥) → (n ≡ 9 → ⊥) → linesIn sorts n ≡ []
+  pub of-none : (n ≡ 1 → ⊥) → (n ≡ 2 → ⊥) → (n ≡ 3 → ⊥) → (n ≡ 4 → ⊥) → (n ≡ 5 → ⊥) → (n ≡ 6 → ⊥) → (n ≡ 8 → ⊥) → (n ≡ 9 → ⊥) → fieldsIn sorts n ≡ []
   of-none a b c d e f g h =
       simp (ne-eqb n 1 a, ne-eqb n 2 b, ne-eqb n 3 c, ne-eqb n 4 d, ne-eqb n 5 e, ne-eqb n 6 f, ne-eqb n 8 g, ne-eqb n 9 h, both)
 

@@ -11,7 +11,7 @@ use Rattle.ledger.specs.declared.Event.{Event}
 use Rattle.ledger.proofs.Cases.{decide}
 use Rattle.scanner.specs.Scanner.{bytes, Read, got, broken, then, readValue, readNumber}
 use Rattle.scanner.proofs.Laws.{Taken, more, fewer, then-taken, Split, value-split, number-taken}
-use Rattle.text.specs.Text.{FieldLine, sorts, sortIn, linesIn, readSort, stored, readFields, eventOf, readEvent}
+use Rattle.text.specs.Text.{FieldLine, sorts, sortIn, fieldsIn, readSort, stored, readFields, eventOf, readEvent}
 use Rattle.text.proofs.Sorts.{least, long}
 
 asked-taken : (t : Bool) (s : List ℕ) (x y : Read Event) → Taken 0 s x → Taken 0 s y → Taken 0 s (cond t x y)
@@ -28,7 +28,7 @@ fields-taken (l ∷ lines) e s =
 
 module _ (d : ℕ) where
   abbrev fields : ℕ → List ℕ → Read Event
-  fields k r = readFields (linesIn sorts k) (eventOf d k) r
+  fields k r = readFields (fieldsIn sorts k) (eventOf d k) r
 
   paid : (r : List ℕ) → Taken 1 r (fields 1 r)
   unfolding readFields
@@ -40,7 +40,7 @@ module _ (d : ℕ) where
       by-sort : (k : ℕ) → least k ≤ length v → Taken 8 s (fields k r)
       by-sort k l = decide (eqb k 1)
           (λ t. rw (eqb-true k 1 t) (more 7 1 s r (fields 1 r) (omega (arith, (rw (eqb-true k 1 t) at l))) (paid r)))
-          (λ f. more 8 0 s r (fields k r) (omega (arith, (simp f at l))) (fields-taken (linesIn sorts k) (eventOf d k) r))
+          (λ f. more 8 0 s r (fields k r) (omega (arith, (simp f at l))) (fields-taken (fieldsIn sorts k) (eventOf d k) r))
 
       none-or : (b : Bool) → (b ≡ false → Taken 8 s (fields (sortIn sorts v) r)) → Taken 8 s (then (cond b broken (got (sortIn sorts v) r)) fields)
       none-or true t = tt

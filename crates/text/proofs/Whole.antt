@@ -9,7 +9,7 @@ use Rattle.ledger.specs.declared.Event.{Event}
 use Rattle.scanner.specs.Scanner.{bytes, got, NumberAt, DateAt}
 use Rattle.scanner.specs.declared.NumberRead.the-variants as number-read
 use Rattle.scanner.specs.declared.DateRead.the-variants as date-read
-use Rattle.text.specs.Text.{readFields, sorts, linesIn, eventOf, readEvent, readTerms, EventAt, TermsAt}
+use Rattle.text.specs.Text.{readFields, sorts, fieldsIn, eventOf, readEvent, readTerms, EventAt, TermsAt}
 use Rattle.text.specs.Places.{SortAt, FieldsAt}
 use Rattle.text.specs.declared.EventRead.{EventRead}
 use Rattle.text.specs.declared.EventRead.the-variants as event-read
@@ -32,11 +32,11 @@ module _ (s : List ℕ) (at : ℕ) where
           let p : length s - next + 14 ≤ length s - at = simp length-drop at (event-progress (drop at s) e (drop next s) q) in
           omega arith
 
-      read-is : readEvent (drop at s) ≡ readFields (linesIn sorts k) (eventOf d k) (drop b s)
+      read-is : readEvent (drop at s) ≡ readFields (fieldsIn sorts k) (eventOf d k) (drop b s)
       unfolding readEvent
       read-is = simp (h .0, g .0)
 
-      pub whole-event : (r : EventRead) → FieldsAt (linesIn sorts k) (eventOf d k) s b r → EventAt s at r
+      pub whole-event : (r : EventRead) → FieldsAt (fieldsIn sorts k) (eventOf d k) s b r → EventAt s at r
       whole-event (event-read.Got e next) f = let q : readEvent (drop at s) ≡ got e (drop next s) = rw read-is (f .0) in (q, past e next (f .1) q, f .1)
       whole-event event-read.Broken f = rw read-is f
 

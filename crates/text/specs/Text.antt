@@ -47,11 +47,11 @@ fieldLine key field = record { key = key; field = field; asked = λ (e : Event).
 pub record SortRow : Type 0 where
   pub sort : ℕ
   pub word : List ℕ
-  pub lines : List FieldLine
+  pub fields : List FieldLine
 
 -- a row and a line, by the words that the paper prints
 abbrev pub sortRow : ℕ → String → List FieldLine → SortRow
-sortRow sort word lines = record { sort = sort; word = bytes word; lines = lines }
+sortRow sort word fields = record { sort = sort; word = bytes word; fields = fields }
 
 abbrev pub under : String → Field → FieldLine
 under key field = fieldLine (bytes key) field
@@ -77,10 +77,10 @@ unfoldable pub sortIn : List SortRow → List ℕ → ℕ
 sortIn [] v = 0
 sortIn (r ∷ rows) v = cond (same (r .word) v) (r .sort) (sortIn rows v)
 
--- the lines of a sort
-abbrev pub linesIn : List SortRow → ℕ → List FieldLine
-linesIn [] sort = []
-linesIn (r ∷ rows) sort = cond (eqb sort (r .sort)) (r .lines) (linesIn rows sort)
+-- the fields of a sort
+abbrev pub fieldsIn : List SortRow → ℕ → List FieldLine
+fieldsIn [] sort = []
+fieldsIn (r ∷ rows) sort = cond (eqb sort (r .sort)) (r .fields) (fieldsIn rows sort)
 
 unfoldable pub readSort : List ℕ → Read ℕ
 readSort s = then (readValue (bytes "do") s) (λ (v r : List ℕ). cond (eqb (sortIn sorts v) 0) broken (got (sortIn sorts v) r))
@@ -105,17 +105,17 @@ changed f e = record {
   to = f To (e .to);
 }
 
-abbrev pub ordinal : Field → ℕ
-ordinal Amount = 0
-ordinal Number = 1
-ordinal Kind = 2
-ordinal Usage = 3
-ordinal Wh = 4
-ordinal From = 5
-ordinal To = 6
+abbrev pub fieldIndex : Field → ℕ
+fieldIndex Amount = 0
+fieldIndex Number = 1
+fieldIndex Kind = 2
+fieldIndex Usage = 3
+fieldIndex Wh = 4
+fieldIndex From = 5
+fieldIndex To = 6
 
 abbrev pub stored : Field → ℕ → Event → Event
-stored field n e = changed (λ (other : Field) (old : ℕ). cond (eqb (ordinal field) (ordinal other)) n old) e
+stored field n e = changed (λ (other : Field) (old : ℕ). cond (eqb (fieldIndex field) (fieldIndex other)) n old) e
 
 unfoldable pub readFields : List FieldLine → Event → List ℕ → Read Event
 readFields [] e s = got e s
@@ -127,7 +127,7 @@ readFields (l ∷ lines) e s =
 unfoldable pub readEvent : List ℕ → Read Event
 readEvent s =
     then (readNumber (bytes "day") s) (λ (d : ℕ) (s₁ : List ℕ).
-    then (readSort s₁) (λ (k : ℕ) (s₂ : List ℕ). readFields (linesIn sorts k) (eventOf d k) s₂))
+    then (readSort s₁) (λ (k : ℕ) (s₂ : List ℕ). readFields (fieldsIn sorts k) (eventOf d k) s₂))
 
 -- ---- what is read, by places in the text
 

@@ -9,7 +9,7 @@ ghost use mathlib.Core.Path.{_≡_};
 ghost use mathlib.Core.List.{[], _∷_};
 ghost use Prim.Native.Nat.{_≤_};
 ghost use lib.ListN.{length};
-ghost use Rattle.text.specs.Text.{TermsAt, EventAt, fieldLine, sorts, sortIn, linesIn, stored};
+ghost use Rattle.text.specs.Text.{TermsAt, EventAt, fieldLine, sorts, sortIn, fieldsIn, stored};
 ghost use Rattle.text.specs.Places.{foundOr, SortAt, FieldsAt, NextAt};
 
 // The bytes of the longest text.
@@ -169,7 +169,7 @@ fn read_next(text: &[u8], read: EventRead, key: &[u8], field: Field) -> EventRea
 // The fields that the event's sort names.
 fn read_fields(text: &[u8], at: usize, event: Event) -> EventRead
     requires { ⌜ at ≤ length (now text) ⌝ }
-    ensures { λ r. ⌜ FieldsAt (linesIn sorts (event .sort)) event (now (text .entry)) at r ⌝ }
+    ensures { λ r. ⌜ FieldsAt (fieldsIn sorts (event .sort)) event (now (text .entry)) at r ⌝ }
 {
     let sort = event.sort;
     match sort {

@@ -29,7 +29,7 @@ by-read broken g f = f refl
 -- ---- what is made of the events, by what stands there
 
 module _ {S Y : Type 0} (w : Fold S Y) (more : S → List ℕ → Y) (x : S) where
-  pub fold-got : (s r : List ℕ) (e : Event) → 0 < length s → readEvent s ≡ got e r → foldBy w more x s ≡ w .event x e (more (w .after x e) r)
+  pub fold-got : (s r : List ℕ) (e : Event) → 0 < length s → readEvent s ≡ got e r → foldBy w more x s ≡ w .event x e (more (w .step x e) r)
   fold-got [] r e h g = absurd (omega arith)
   fold-got (b ∷ s) r e h g = rw (g, foldBy)
 
@@ -69,7 +69,7 @@ fold-local w f g x [] h = refl
 fold-local w f g x (b ∷ s) h = by-read (readEvent (b ∷ s))
     (λ e r q.
     fold-got w f x (b ∷ s) r e (omega arith) q
-    ∙ ap (w .event x e) (h (w .after x e) r (omega (arith, event-progress (b ∷ s) e r q)))
+    ∙ ap (w .event x e) (h (w .step x e) r (omega (arith, event-progress (b ∷ s) e r q)))
     ∙ sym (fold-got w g x (b ∷ s) r e (omega arith) q))
     (λ q. fold-broken w f x (b ∷ s) (omega arith) q ∙ sym (fold-broken w g x (b ∷ s) (omega arith) q))
 
@@ -104,7 +104,7 @@ pub counts-suffice : CountsSuffice
 unfolding eventsPiece
 counts-suffice = record {
   progress = λ s r e g. omega (arith, event-progress s e r g);
-  lines = λ t. fold-suffices (ledgerLines t);
+  ledger-lines = λ t. fold-suffices (ledgerLines t);
   account-lines = fold-suffices accountLines;
   pieces = λ room s a at count n.
       uncounted {X = Account × ℕ × ℕ × ℕ} {Y = Progress} (λ x. length s - x .1)

@@ -19,6 +19,6 @@ FoldSuffices {S} w = (x : S) (s : List ℕ) → foldEvents w x s ≡ foldBy w (f
 pub record CountsSuffice : Type 0 where
   -- an event takes bytes, so each equation has one solution
   pub progress : (s r : List ℕ) (e : Event) → readEvent s ≡ got e r → length r < length s
-  pub lines : (t : Terms) → FoldSuffices (ledgerLines t)
+  pub ledger-lines : (t : Terms) → FoldSuffices (ledgerLines t)
   pub account-lines : FoldSuffices accountLines
   pub pieces : (room : ℕ) (s : List ℕ) (a : Account) (at count n : ℕ) → pieceFrom room s a at count n ≡ pieceBy (pieceFrom room s) room s a at count n

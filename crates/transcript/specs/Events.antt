@@ -9,7 +9,7 @@ use Rattle.text.specs.Text.{readEvent}
 -- What an event does to the state, what is made of an event with what is made of those after it, what of one that breaks the form, and what
 -- of the end.
 pub record Fold (S Y : Type 0) : Type 0 where
-  pub after : S → Event → S
+  pub step : S → Event → S
   pub event : S → Event → Y → Y
   pub malformed : S → Y
   pub end : S → Y
@@ -19,7 +19,7 @@ abbrev pub foldBy : {S Y : Type 0} → Fold S Y → (S → List ℕ → Y) → S
 foldBy w more x [] = w .end x
 foldBy w more x (b ∷ s) =
     elim (readEvent (b ∷ s)) [
-      | got e r ↦ w .event x e (more (w .after x e) r)
+      | got e r ↦ w .event x e (more (w .step x e) r)
       | broken ↦ w .malformed x
     ]
 

@@ -29,10 +29,10 @@ lastLine sum cost = bytes "settled=" ++ (signed sum ++ (bytes " estimates=" ++ (
 
 -- the lines of events with their ordinals, by what each answers and by the state after it, and the last line: "Code 15 prints its line and no more is read, then
 -- the last line."
-abbrev pub lines : {S : Type 0} → (S → Event → S) → (S → Event → ℕ) → (S → Event → ℕ) → (ℕ → ℕ → ℕ → S → List ℕ) → (S → List ℕ) → Fold (S × ℕ) (List ℕ)
-lines {S} after code value line closing = record {
-  after = λ (x : S × ℕ) (e : Event). (after (x .0) e, x .1 + 1);
-  event = λ (x : S × ℕ) (e : Event) (more : List ℕ). line (x .1) (code (x .0) e) (value (x .0) e) (after (x .0) e) ++ more;
+abbrev pub linesFold : {S : Type 0} → (S → Event → S) → (S → Event → ℕ) → (S → Event → ℕ) → (ℕ → ℕ → ℕ → S → List ℕ) → (S → List ℕ) → Fold (S × ℕ) (List ℕ)
+linesFold {S} step code value line closing = record {
+  step = λ (x : S × ℕ) (e : Event). (step (x .0) e, x .1 + 1);
+  event = λ (x : S × ℕ) (e : Event) (more : List ℕ). line (x .1) (code (x .0) e) (value (x .0) e) (step (x .0) e) ++ more;
   malformed = λ (x : S × ℕ). line (x .1) 15 0 (x .0) ++ closing (x .0);
   end = λ (x : S × ℕ). closing (x .0);
 }
@@ -46,7 +46,7 @@ ledgerClosing t l = lastLine (settled t (l .list)) (standing t (l .list))
 
 abbrev pub ledgerLines : Terms → Fold (Ledger × ℕ) (List ℕ)
 ledgerLines t =
-    lines (λ (l : Ledger) (e : Event). ledgerStep t l e .ledger)
+    linesFold (λ (l : Ledger) (e : Event). ledgerStep t l e .ledger)
     (λ (l : Ledger) (e : Event). ledgerStep t l e .answer .code)
     (λ (l : Ledger) (e : Event). ledgerStep t l e .answer .value)
     ledgerLine

@@ -7,7 +7,7 @@ use Rattle.moves.specs.declared.Totals.{Totals}
 use Rattle.account.specs.declared.Account.{Account}
 use Rattle.readings.specs.Readings.{balanceOf, settledOf}
 use Rattle.transcript.specs.Events.{Fold}
-use Rattle.transcript.specs.Transcript.{eventLine, lastLine, lines}
+use Rattle.transcript.specs.Transcript.{eventLine, lastLine, linesFold}
 
 -- the line of an event, by the totals after it; the last line
 abbrev pub accountLine : ℕ → ℕ → ℕ → Totals → List ℕ
@@ -18,7 +18,7 @@ accountClosing s = lastLine (settledOf s) (s .standing)
 
 abbrev pub accountLines : Fold (Account × ℕ) (List ℕ)
 accountLines =
-    lines (λ (a : Account) (e : Event). stepOf a e .account)
+    linesFold (λ (a : Account) (e : Event). stepOf a e .account)
     (λ (a : Account) (e : Event). stepOf a e .code)
     (λ (a : Account) (e : Event). stepOf a e .value)
     (λ (n code value : ℕ) (a : Account). accountLine n code value (a .totals))

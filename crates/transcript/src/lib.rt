@@ -1,6 +1,6 @@
 // What `prepay` prints for a text: whole into a lent buffer, or in pieces through one of any size.
 // It uses the event text, the terms, the account, the moves, the marks, the readings and the printing. Its promises cite
-// specs/Transcript.antt, specs/Counts.antt and specs/Pieces.antt, which stands on specs/Work.antt.
+// specs/Transcript.antt, specs/Counts.antt and specs/Pieces.antt, which stand on specs/Events.antt and specs/Work.antt.
 use account::Account;
 use calendar::Date;
 use moves::Totals;

@@ -5,13 +5,13 @@ use mathlib.Core.Path.{_≡_, refl, _∙_}
 use mathlib.Core.List.{[], _∷_, _++_}
 use lib.ListN.{length, drop}
 use borrow.Author.Needs.{needs}
-use Rattle.scanner.specs.Scanner.{after, equals}
+use Rattle.scanner.specs.Scanner.{bytes, afterPrefix}
 use Rattle.scanner.proofs.Lines.{text-ends, key-turn, key-other, key-ends, no-equals}
 use Rattle.scanner.proofs.value_start.Statement.{statement}
 use Rattle.scanner.proofs.value_start.Tie as tie
 
 abbrev Inv-loop : tie.InvT-loop
-Inv-loop text at key i₀ j₀ i j = after (key ++ equals ∷ []) (drop at text) ≡ after (drop i key ++ equals ∷ []) (drop j text)
+Inv-loop text at key i₀ j₀ i j = afterPrefix (key ++ bytes "=") (drop at text) ≡ afterPrefix (drop i key ++ bytes "=") (drop j text)
 
 abbrev μ-loop : tie.MeasureT-loop
 μ-loop text at key i₀ j₀ i j = length key - i

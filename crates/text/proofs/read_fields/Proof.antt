@@ -5,7 +5,7 @@ use mathlib.Core.List.{List, []}
 use mathlib.Core.Logic.{inl, inr}
 use native.Mathlib.Omega.{arith}
 use borrow.Author.Needs.{needs}
-use Rattle.text.specs.Text.{FieldLine, sorts, linesIn}
+use Rattle.text.specs.Text.{FieldLine, sorts, fieldsIn}
 use Rattle.text.specs.Places.{FieldsAt}
 use Rattle.text.specs.declared.EventRead.{EventRead}
 use Rattle.text.specs.declared.EventRead.the-variants.{Got}
@@ -14,12 +14,12 @@ use Rattle.text.proofs.read_fields.Statement.{statement}
 use Rattle.text.proofs.read_fields.Tie as tie
 
 -- an arm's answer, where its fields are the sort's
-by : (c : tie.Start) (fs : List FieldLine) (r : EventRead) → linesIn sorts (c .args .event .sort) ≡ fs → FieldsAt fs (c .args .event) (c .args .text .now) (c .args .at) r
-    → FieldsAt (linesIn sorts (c .args .event .sort)) (c .args .event) (c .args .text .now) (c .args .at) r
+by : (c : tie.Start) (fs : List FieldLine) (r : EventRead) → fieldsIn sorts (c .args .event .sort) ≡ fs → FieldsAt fs (c .args .event) (c .args .text .now) (c .args .at) r
+    → FieldsAt (fieldsIn sorts (c .args .event .sort)) (c .args .event) (c .args .text .now) (c .args .at) r
 by c fs r e h = subst (λ (l : List FieldLine). FieldsAt l (c .args .event) (c .args .text .now) (c .args .at) r) (sym e) h
 
 -- the sorts with no field
-none : (c : tie.At-match-rest) → (5 ≤ c .before .before .args .event .sort → c .before .before .args .event .sort < 7 → ⊥) → linesIn sorts (c .before .before .args .event .sort) ≡ []
+none : (c : tie.At-match-rest) → (5 ≤ c .before .before .args .event .sort → c .before .before .args .event .sort < 7 → ⊥) → fieldsIn sorts (c .before .before .args .event .sort) ≡ []
 none c out =
     let r = c .match .rest in
     of-none (c .before .before .args .event .sort)
@@ -44,25 +44,25 @@ low c h =
     omega arith
 
 returns : tie.Need-returns
-returns c = by (c .before .before .before .before) _ (c .read-field .result) (elim (c .before .before .match .keys1) [ inl e ↦ ap (linesIn sorts) e | inr e ↦ ap (linesIn sorts) e ]) (c .read-field .ensures)
+returns c = by (c .before .before .before .before) _ (c .read-field .result) (elim (c .before .before .match .keys1) [ inl e ↦ ap (fieldsIn sorts) e | inr e ↦ ap (fieldsIn sorts) e ]) (c .read-field .ensures)
 
 returns-2 : tie.Need-returns-2
-returns-2 c = by (c .before .before .before .before) _ (c .read-field2 .result) (ap (linesIn sorts) (c .before .before .match .keys2)) (c .read-field2 .ensures)
+returns-2 c = by (c .before .before .before .before) _ (c .read-field2 .result) (ap (fieldsIn sorts) (c .before .before .match .keys2)) (c .read-field2 .ensures)
 
 returns-3 : tie.Need-returns-3
 returns-3 c =
-    by (c .before .before .before .before .before .before) _ (c .read-next .result) (ap (linesIn sorts) (c .before .before .before .before .match .keys3))
+    by (c .before .before .before .before .before .before) _ (c .read-next .result) (ap (fieldsIn sorts) (c .before .before .before .before .match .keys3))
     (next-line _ _ _ _ _ (c .before .before .read-field3 .result) _ (c .before .before .read-field3 .ensures) (c .read-next .ensures))
 
 returns-4 : tie.Need-returns-4
 returns-4 c =
     let kind = c .before .before .before .before in
     let from = c .before .before in
-    by (c .before .before .before .before .before .before .before .before) _ (c .read-next3 .result) (ap (linesIn sorts) (c .before .before .before .before .before .before .match .keys4))
+    by (c .before .before .before .before .before .before .before .before) _ (c .read-next3 .result) (ap (fieldsIn sorts) (c .before .before .before .before .before .before .match .keys4))
     (next-line _ _ _ _ _ (from .read-next2 .result) _ (next-line _ _ _ _ _ (kind .read-field4 .result) _ (kind .read-field4 .ensures) (from .read-next2 .ensures)) (c .read-next3 .ensures))
 
 returns-5 : tie.Need-returns-5
-returns-5 c = by (c .before .before .before .before) _ (c .read-field5 .result) (ap (linesIn sorts) (c .before .before .match .keys5)) (c .read-field5 .ensures)
+returns-5 c = by (c .before .before .before .before) _ (c .read-field5 .result) (ap (fieldsIn sorts) (c .before .before .match .keys5)) (c .read-field5 .ensures)
 
 returns-6 : tie.Need-returns-6
 returns-6 c =
