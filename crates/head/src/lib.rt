@@ -9,15 +9,15 @@ use ledger::Summary;
 use terms::Terms;
 ghost use mathlib.Core.Path.{_≡_};
 ghost use Rattle.posting.specs.Posting.{rowOf};
-ghost use Rattle.transcript.specs.Transcript.{Written};
-ghost use Rattle.statement.specs.Statement as statement;
+ghost use Rattle.transcript.specs.Transcript.{WholeTranscript};
+ghost use Rattle.statement.specs.Statement.{WholeStatement};
 ghost use Rattle.image.specs.Image.{accountOf, openedOf, postedOf, readingsOf, summaryIn};
 ghost use Rattle.head.specs.Interface.{IsOpened, IsPosted, IsRow};
 
 // The transcript of a text.
 #[no_mangle]
 pub extern "C" fn prepay_transcript(text: &[u8], out: &mut [u8]) -> usize
-    ensures { λ r. ⌜ Written (now (text .entry)) (now (out .entry)) (now (out .exit)) r ⌝ }
+    ensures { λ r. ⌜ WholeTranscript (now (text .entry)) (now (out .entry)) (now (out .exit)) r ⌝ }
 {
     transcript::transcript(text, out)
 }
@@ -25,7 +25,7 @@ pub extern "C" fn prepay_transcript(text: &[u8], out: &mut [u8]) -> usize
 // The month figures of a text.
 #[no_mangle]
 pub extern "C" fn prepay_statement(text: &[u8], out: &mut [u8]) -> usize
-    ensures { λ r. ⌜ statement.Written (now (text .entry)) (now (out .entry)) (now (out .exit)) r ⌝ }
+    ensures { λ r. ⌜ WholeStatement (now (text .entry)) (now (out .entry)) (now (out .exit)) r ⌝ }
 {
     statement::statement(text, out)
 }

@@ -10,7 +10,7 @@ use lib.Dec.{ltb}
 use lib.IntN.{ℤ, pos, negsuc}
 use lib.Signed.{mag}
 use borrow.Author.Tests.{ltb-true, ltb-false, lt-ltb, le-ltb}
-use Rattle.printing.specs.Printing.{digitsBy, digits, decimal, CountSuffices, signed}
+use Rattle.printing.specs.Printing.{digitsBy, digits, decimal, DigitsSuffice, signed}
 use Rattle.printing.proofs.Counts.{uncounted}
 
 -- each way a test can come out
@@ -23,7 +23,7 @@ local f g n h = decide (ltb n 10)
     (λ t. simp t)
     (λ t. simp t (ap (λ (d : List ℕ). d ++ ((48 + n % 10) ∷ [])) (h (n / 10) (omega (arith, ltb-false n 10 t)))))
 
-pub count-suffices : CountSuffices
+pub count-suffices : DigitsSuffice
 unfolding decimal digits
 count-suffices n = uncounted (λ m. m) digitsBy digits (λ k x. refl) local n
 

@@ -10,7 +10,7 @@ use lib.ListN.{length, take, drop, set, length-append, length-drop, length-set, 
 use lib.Seq.{paste, take-length, length-take-le, take-at, drop-at, drop-drop, drop-cons, set-split, drop-set-lt, take-set-le, getD-set-same}
 use lib.Dec.{leb}
 use borrow.Author.Tests.{le-leb, leb-true, leb-false, lt-leb}
-use Rattle.printing.specs.Printing.{over, fits, put, past, Puts}
+use Rattle.printing.specs.Printing.{over, fits, put, placeAfter, Puts}
 use Rattle.printing.proofs.Digits.{decide}
 
 module _ (b : List ℕ) (at : ℕ) (x : List ℕ) (h : at + length x ≤ length b) where
@@ -93,13 +93,13 @@ module _ (b : List ℕ) (at : ℕ) (x : List ℕ) where
   unfolding put fits
   put-fits h = simp (le-leb (at + length x) (length b) h)
 
-  pub past-fits : at + length x ≤ length b → past b at x ≡ at + length x
-  unfolding past fits
+  pub past-fits : at + length x ≤ length b → placeAfter b at x ≡ at + length x
+  unfolding placeAfter fits
   past-fits h = simp (le-leb (at + length x) (length b) h)
 
   pub puts-all : (after : List ℕ) (r : ℕ) → at + length x ≤ length b → after ≡ over b at x → r ≡ at + length x → Puts b at x after r
   puts-all after r h e n = record { buffer = e ∙ sym (put-fits h); next = n ∙ sym (past-fits h) }
 
   pub puts-nothing : leb (at + length x) (length b) ≡ false → Puts b at x b at
-  unfolding put past fits
+  unfolding put placeAfter fits
   puts-nothing f = record { buffer = simp f; next = simp f }

@@ -21,8 +21,8 @@ unfoldable pub decimal : ℕ → List ℕ
 decimal n = digits (suc n) n
 
 -- The equation holds without the count, for every number.
-abbrev pub CountSuffices : Type 0
-CountSuffices = (n : ℕ) → decimal n ≡ digitsBy decimal n
+abbrev pub DigitsSuffice : Type 0
+DigitsSuffice = (n : ℕ) → decimal n ≡ digitsBy decimal n
 
 -- "a negative sum has a leading minus"
 unfoldable pub signed : ℤ → List ℕ
@@ -41,13 +41,13 @@ over buffer at bytes = take at buffer ++ (bytes ++ drop (at + length bytes) buff
 unfoldable pub put : List ℕ → ℕ → List ℕ → List ℕ
 put buffer at bytes = cond (fits buffer at bytes) (over buffer at bytes) buffer
 
-unfoldable pub past : List ℕ → ℕ → List ℕ → ℕ
-past buffer at bytes = cond (fits buffer at bytes) (at + length bytes) at
+unfoldable pub placeAfter : List ℕ → ℕ → List ℕ → ℕ
+placeAfter buffer at bytes = cond (fits buffer at bytes) (at + length bytes) at
 
 -- What a putting call leaves: the buffer and the place after the bytes.
 pub record Puts (before : List ℕ) (at : ℕ) (bytes after : List ℕ) (r : ℕ) : Type 0 where
   pub buffer : after ≡ put before at bytes
-  pub next : r ≡ past before at bytes
+  pub next : r ≡ placeAfter before at bytes
 
 -- The bytes stand in the buffer from the place on, with room for them, and r is the place after them.
 pub record Wrote (before : List ℕ) (at : ℕ) (bytes after : List ℕ) (r : ℕ) : Type 0 where

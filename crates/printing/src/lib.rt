@@ -5,7 +5,7 @@ ghost use Prim.Native.Nat.{_+_, _≤_};
 ghost use lib.Dec.{leb};
 ghost use lib.ListN.{length};
 ghost use lib.IntN.{natAbs};
-ghost use Rattle.printing.specs.Printing.{decimal, CountSuffices, signed, over, Puts};
+ghost use Rattle.printing.specs.Printing.{decimal, DigitsSuffice, signed, over, Puts};
 
 // Whether `count` bytes from place `at` on lie within `length` bytes.
 fn room(length: usize, at: usize, count: usize) -> bool
@@ -35,7 +35,7 @@ pub fn put_bytes(out: &mut [u8], at: usize, bytes: &[u8]) -> usize
 
 // The definition of a number's digits counts them down from one more than the number, which is enough.
 pub fn count_suffices()
-    ensures { λ _. ⌜ CountSuffices ⌝ }
+    ensures { λ _. ⌜ DigitsSuffice ⌝ }
 {}
 
 // How many digits n has.

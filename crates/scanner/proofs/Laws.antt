@@ -7,7 +7,7 @@ use native.Mathlib.Omega.{arith}
 use lib.ListN.{length, length-append}
 use lib.Dec.{leb, eqb}
 use borrow.Author.Tests.{leb-true}
-use Rattle.scanner.specs.Scanner.{Read, got, broken, then, feed, equals, readLine, after, readValue, isNumber, valueFrom, readNumber, isDate, dateValue, readDate, same}
+use Rattle.scanner.specs.Scanner.{bytes, Read, got, broken, then, feed, readLine, afterPrefix, readValue, isNumber, valueFrom, readNumber, same}
 use Rattle.scanner.proofs.Digits.{both-left, both-right}
 
 -- at least n bytes are taken
@@ -52,24 +52,24 @@ rest-turn a b p l true (got v none) h = omega arith
 rest-turn a b p l true broken h = tt
 rest-turn a b p l false x h = tt
 
-after-rest : (p l : List ℕ) → Rest p l (after p l)
-unfolding after
+after-rest : (p l : List ℕ) → Rest p l (afterPrefix p l)
+unfolding afterPrefix
 after-rest [] l = omega arith
 after-rest (a ∷ p) [] = tt
-after-rest (a ∷ p) (b ∷ l) = rest-turn a b p l (eqb a b) (after p l) (after-rest p l)
+after-rest (a ∷ p) (b ∷ l) = rest-turn a b p l (eqb a b) (afterPrefix p l) (after-rest p l)
 
 module _ (key s : List ℕ) where
-  value-line : (rest : List ℕ) (x : Read (List ℕ)) → length s ≡ length (key ++ equals ∷ []) + length rest → Split rest 1 x → Split s (length key + 2) x
-  value-line rest (got v r) h g = omega (arith, length-append key (equals ∷ []))
+  value-line : (rest : List ℕ) (x : Read (List ℕ)) → length s ≡ length (key ++ bytes "=") + length rest → Split rest 1 x → Split s (length key + 2) x
+  value-line rest (got v r) h g = omega (arith, length-append key (bytes "="))
   value-line rest broken h g = tt
 
-  value-rest : (x : Read (List ℕ)) → Rest (key ++ equals ∷ []) s x → Split s (length key + 2) (then x (λ (rest none : List ℕ). readLine rest))
+  value-rest : (x : Read (List ℕ)) → Rest (key ++ bytes "=") s x → Split s (length key + 2) (then x (λ (rest none : List ℕ). readLine rest))
   value-rest (got rest none) h = value-line rest (readLine rest) h (line-split rest)
   value-rest broken h = tt
 
   pub value-split : Split s (length key + 2) (readValue key s)
   unfolding readValue
-  value-split = value-rest (after (key ++ equals ∷ []) s) (after-rest (key ++ equals ∷ []) s)
+  value-split = value-rest (afterPrefix (key ++ bytes "=") s) (after-rest (key ++ bytes "=") s)
 
   -- a number's line
   number-by : (v r : List ℕ) (b : Bool) → (b ≡ true → 1 ≤ length v) → length s ≡ length v + (length r + (length key + 2)) → Taken (length key + 3) s (cond b (got (valueFrom 0 v) r) broken)
@@ -84,19 +84,6 @@ module _ (key s : List ℕ) where
   pub number-taken : Taken (length key + 3) s (readNumber key s)
   unfolding readNumber
   number-taken = number-value (readValue key s) value-split
-
-  -- a date's line
-  date-by : (v r : List ℕ) (b : Bool) → length s ≡ length v + (length r + (length key + 2)) → Taken (length key + 2) s (cond b (got (dateValue v) r) broken)
-  date-by v r true h = omega arith
-  date-by v r false h = tt
-
-  date-value : (x : Read (List ℕ)) → Split s (length key + 2) x → Taken (length key + 2) s (then x (λ (v r : List ℕ). cond (isDate v) (got (dateValue v) r) broken))
-  date-value (got v r) h = date-by v r (isDate v) h
-  date-value broken h = tt
-
-  pub date-taken : Taken (length key + 2) s (readDate key s)
-  unfolding readDate
-  date-taken = date-value (readValue key s) value-split
 
 -- ---- a word
 

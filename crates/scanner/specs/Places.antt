@@ -1,16 +1,16 @@
 -- What the functions inside the scanner answer.
 use Prim.Native.Nat.{ℕ, _+_, _-_, _≤_, _<_}
 use mathlib.Core.Path.{_≡_}
-use mathlib.Core.Bool.{cond, _&&_}
+use mathlib.Core.Bool.{cond}
 use mathlib.Core.List.{List, [], _∷_, _++_}
-use lib.ListN.{length, getD, drop}
-use Rattle.scanner.specs.declared.Place.{Place}
-use Rattle.scanner.specs.declared.Place.the-variants as place
+use lib.ListN.{length, drop}
+use Rattle.scanner.specs.declared.Position.{Position}
+use Rattle.scanner.specs.declared.Position.the-variants as position
 use Rattle.scanner.specs.declared.NumberRead.{NumberRead}
 use Rattle.scanner.specs.declared.NumberRead.the-variants as number-read
 use Rattle.scanner.specs.declared.DateRead.{DateRead}
 use Rattle.scanner.specs.declared.DateRead.the-variants as date-read
-use Rattle.scanner.specs.Scanner.{Read, got, broken, then, equals, readLine, after, isDigit, valueFrom, isNumber, isDate, pair, dateValue, part}
+use Rattle.scanner.specs.Scanner.{bytes, Read, got, broken, then, readLine, afterPrefix, isDigit, valueFrom, isNumber, isDateForm, areDigits, twoDigits, dateValue, between}
 
 -- ---- bytes by themselves
 
@@ -19,12 +19,12 @@ abbrev pub digitOf : ℕ → ℕ
 digitOf b = cond (isDigit b) (b - 48) 10
 
 -- the number of the two digits at a place, 100 for none
-abbrev pub pairOf : List ℕ → ℕ → ℕ
-pairOf v i = cond (isDigit (getD v i 0) && isDigit (getD v (i + 1) 0)) (pair (getD v i 0) (getD v (i + 1) 0)) 100
+abbrev pub twoDigitsAt : List ℕ → ℕ → ℕ
+twoDigitsAt v i = cond (areDigits v i) (twoDigits v i) 100
 
 -- the date that a line's value is, with what follows the line
 abbrev pub dateOf : List ℕ → ℕ → DateRead
-dateOf v next = cond (isDate v) (date-read.Got (dateValue v) next) date-read.Broken
+dateOf v next = cond (isDateForm v) (date-read.Got (dateValue v) next) date-read.Broken
 
 -- the number that stands before the first line feed
 unfoldable pub numberLine : List ℕ → Read ℕ
@@ -33,14 +33,14 @@ numberLine s = then (readLine s) (λ (v r : List ℕ). cond (isNumber v) (got (v
 -- ---- by places
 
 -- where the value of the line at a place starts: after the key and the equals sign
-abbrev pub StartAt : List ℕ → List ℕ → ℕ → Place → Type 0
-StartAt key s at (place.At from) = (after (key ++ equals ∷ []) (drop at s) ≡ got (drop from s) []) × (from ≤ length s)
-StartAt key s at place.Missing = after (key ++ equals ∷ []) (drop at s) ≡ broken
+abbrev pub StartAt : List ℕ → List ℕ → ℕ → Position → Type 0
+StartAt key s at (position.At from) = (afterPrefix (key ++ bytes "=") (drop at s) ≡ got (drop from s) []) × (from ≤ length s)
+StartAt key s at position.Missing = afterPrefix (key ++ bytes "=") (drop at s) ≡ broken
 
 -- the first line feed from a place on
-abbrev pub FeedAt : List ℕ → ℕ → Place → Type 0
-FeedAt s at (place.At end) = (readLine (drop at s) ≡ got (part s at end) (drop (end + 1) s)) × (at ≤ end) × (end < length s)
-FeedAt s at place.Missing = readLine (drop at s) ≡ broken
+abbrev pub FeedAt : List ℕ → ℕ → Position → Type 0
+FeedAt s at (position.At end) = (readLine (drop at s) ≡ got (between s at end) (drop (end + 1) s)) × (at ≤ end) × (end < length s)
+FeedAt s at position.Missing = readLine (drop at s) ≡ broken
 
 -- the number from a place on, up to the line feed
 abbrev pub NumberFrom : List ℕ → ℕ → NumberRead → Type 0

@@ -1,5 +1,8 @@
 -- The lines of an event text, over bytes (document 01, "Event text"): their keys and values, numbers, dates and words.
 use Prim.Native.Nat.{ℕ, _+_, _*_, _-_, _≤_}
+use Prim.Native.Char.{code}
+use Prim.Native.String as text
+use Prim.Native.String.{String}
 use mathlib.Core.Path.{_≡_}
 use mathlib.Core.Bool.{Bool, true, false, cond, not, _&&_, _||_}
 use mathlib.Core.List.{List, [], _∷_, _++_}
@@ -14,6 +17,11 @@ use Rattle.scanner.specs.declared.NumberRead.the-variants as number-read
 use Rattle.scanner.specs.declared.DateRead.{DateRead}
 use Rattle.scanner.specs.declared.DateRead.the-variants as date-read
 
+-- A word as the paper prints it, by its bytes.
+abbrev pub bytes : String → List ℕ
+bytes text.[] = []
+bytes (text._∷_ c s) = code c ∷ bytes s
+
 -- What stands at the start of some bytes, with the bytes after it; or that they break the form.
 pub data Read (A : Type 0) : Type 0 where
   got : A → List ℕ → Read A
@@ -26,12 +34,9 @@ then broken f = broken
 
 -- ---- lines
 
--- a line feed; an equals sign; a hyphen
+-- a line feed; a hyphen
 abbrev pub feed : ℕ
 feed = 10
-
-abbrev pub equals : ℕ
-equals = 61
 
 abbrev pub hyphen : ℕ
 hyphen = 45
@@ -42,14 +47,14 @@ readLine [] = broken
 readLine (b ∷ s) = cond (eqb b feed) (got [] s) (then (readLine s) (λ (l r : List ℕ). got (b ∷ l) r))
 
 -- what stands after the prefix
-unfoldable pub after : List ℕ → List ℕ → Read (List ℕ)
-after [] s = got s []
-after (p ∷ ps) [] = broken
-after (p ∷ ps) (b ∷ s) = cond (eqb p b) (after ps s) broken
+unfoldable pub afterPrefix : List ℕ → List ℕ → Read (List ℕ)
+afterPrefix [] s = got s []
+afterPrefix (p ∷ ps) [] = broken
+afterPrefix (p ∷ ps) (b ∷ s) = cond (eqb p b) (afterPrefix ps s) broken
 
 -- "Lines `key=value`, each ended by one line feed": what stands after the key and the equals sign, up to the line feed
 unfoldable pub readValue : List ℕ → List ℕ → Read (List ℕ)
-readValue key s = then (after (key ++ equals ∷ []) s) (λ (rest none : List ℕ). readLine rest)
+readValue key s = then (afterPrefix (key ++ bytes "=") s) (λ (rest none : List ℕ). readLine rest)
 
 -- ---- numbers
 
@@ -76,31 +81,25 @@ readNumber key s = then (readValue key s) (λ (v r : List ℕ). cond (isNumber v
 
 -- ---- dates
 
+-- the two digits at a place, and their number
+abbrev pub areDigits : List ℕ → ℕ → Bool
+areDigits v i = isDigit (getD v i 0) && isDigit (getD v (i + 1) 0)
+
+abbrev pub twoDigits : List ℕ → ℕ → ℕ
+twoDigits v i = (getD v i 0 - 48) * 10 + (getD v (i + 1) 0 - 48)
+
 -- "Dates are YYYY-MM-DD": any digits
-unfoldable pub isDate : List ℕ → Bool
-isDate v =
+unfoldable pub isDateForm : List ℕ → Bool
+isDateForm v =
     eqb (length v) 10
     && (eqb (getD v 4 0) hyphen
-    && (eqb (getD v 7 0) hyphen
-    && (isDigit (getD v 0 0)
-    && (isDigit (getD v 1 0)
-    && (isDigit (getD v 2 0)
-    && (isDigit (getD v 3 0)
-    && (isDigit (getD v 5 0) && (isDigit (getD v 6 0) && (isDigit (getD v 8 0) && isDigit (getD v 9 0))))))))))
-
--- the number of two digits
-abbrev pub pair : ℕ → ℕ → ℕ
-pair a b = (a - 48) * 10 + (b - 48)
+    && (eqb (getD v 7 0) hyphen && (areDigits v 0 && (areDigits v 2 && (areDigits v 5 && areDigits v 8)))))
 
 unfoldable pub dateValue : List ℕ → Date
-dateValue v = record {
-  year = pair (getD v 0 0) (getD v 1 0) * 100 + pair (getD v 2 0) (getD v 3 0);
-  month = pair (getD v 5 0) (getD v 6 0);
-  day = pair (getD v 8 0) (getD v 9 0);
-}
+dateValue v = record { year = twoDigits v 0 * 100 + twoDigits v 2; month = twoDigits v 5; day = twoDigits v 8 }
 
 unfoldable pub readDate : List ℕ → List ℕ → Read Date
-readDate key s = then (readValue key s) (λ (v r : List ℕ). cond (isDate v) (got (dateValue v) r) broken)
+readDate key s = then (readValue key s) (λ (v r : List ℕ). cond (isDateForm v) (got (dateValue v) r) broken)
 
 -- ---- words: the same bytes
 
@@ -113,12 +112,12 @@ same (p ∷ ps) (b ∷ s) = eqb p b && same ps s
 -- ---- what is read, by places in the text
 
 -- the bytes from one place to the one before another
-abbrev pub part : List ℕ → ℕ → ℕ → List ℕ
-part s from end = take (end - from) (drop from s)
+abbrev pub between : List ℕ → ℕ → ℕ → List ℕ
+between s from end = take (end - from) (drop from s)
 
 -- the value of the line at a place: where it starts and ends, and what follows the line
 abbrev pub ValueAt : List ℕ → List ℕ → ℕ → ValueRead → Type 0
-ValueAt key s at (value-read.Got from end next) = (readValue key (drop at s) ≡ got (part s from end) (drop next s)) × (from ≤ end) × (end ≤ length s) × (next ≤ length s) × (next ≡ end + 1)
+ValueAt key s at (value-read.Got from end next) = (readValue key (drop at s) ≡ got (between s from end) (drop next s)) × (from ≤ end) × (end ≤ length s) × (next ≤ length s) × (next ≡ end + 1)
 ValueAt key s at value-read.Broken = readValue key (drop at s) ≡ broken
 
 abbrev pub NumberAt : List ℕ → List ℕ → ℕ → NumberRead → Type 0

@@ -5,10 +5,10 @@ ghost use mathlib.Core.Path.{_≡_};
 ghost use Prim.Native.Nat.{_+_, _≤_};
 ghost use lib.ListN.{length};
 ghost use Rattle.scanner.specs.Scanner.{same as sameBytes, ValueAt, NumberAt, DateAt};
-ghost use Rattle.scanner.specs.Places.{digitOf, pairOf, dateOf, StartAt, FeedAt, NumberFrom};
+ghost use Rattle.scanner.specs.Places.{digitOf, twoDigitsAt, dateOf, StartAt, FeedAt, NumberFrom};
 
 // A place in the text, or that there is none.
-enum Place {
+enum Position {
     At(usize),
     Missing,
 }
@@ -36,52 +36,52 @@ pub enum DateRead {
 // ---- lines
 
 // The first line feed from `at` on.
-fn line_end(text: &[u8], at: usize) -> Place
+fn line_end(text: &[u8], at: usize) -> Position
     ensures { λ r. ⌜ FeedAt (now (text .entry)) at r ⌝ }
 {
     let mut i = at;
     while i < text.len() {
-        if text[i] == 10 {
-            return Place::At(i);
+        if text[i] == b'\n' {
+            return Position::At(i);
         }
         i += 1;
     }
-    Place::Missing
+    Position::Missing
 }
 
 // Where the value of the line at `at` starts, if its key is this.
-fn value_start(text: &[u8], at: usize, key: &[u8]) -> Place
+fn value_start(text: &[u8], at: usize, key: &[u8]) -> Position
     ensures { λ r. ⌜ StartAt (now (key .entry)) (now (text .entry)) at r ⌝ }
 {
     let mut i = 0;
     let mut j = at;
     while i < key.len() {
         if j >= text.len() {
-            return Place::Missing;
+            return Position::Missing;
         }
         if text[j] != key[i] {
-            return Place::Missing;
+            return Position::Missing;
         }
         i += 1;
         j += 1;
     }
     if j >= text.len() {
-        return Place::Missing;
+        return Position::Missing;
     }
-    if text[j] != 61 {
-        return Place::Missing;
+    if text[j] != b'=' {
+        return Position::Missing;
     }
-    Place::At(j + 1)
+    Position::At(j + 1)
 }
 
 // The value of the line at `at`, whose key this is to be.
 pub fn read_value(text: &[u8], at: usize, key: &[u8]) -> ValueRead
     ensures { λ r. ⌜ ValueAt (now (key .entry)) (now (text .entry)) at r ⌝ }
 {
-    let Place::At(from) = value_start(text, at, key) else {
+    let Position::At(from) = value_start(text, at, key) else {
         return ValueRead::Broken;
     };
-    let Place::At(end) = line_end(text, from) else {
+    let Position::At(end) = line_end(text, from) else {
         return ValueRead::Broken;
     };
     let next = end + 1;
@@ -94,10 +94,10 @@ pub fn read_value(text: &[u8], at: usize, key: &[u8]) -> ValueRead
 fn digit(byte: u8) -> u64
     ensures { λ r. ⌜ r ≡ digitOf byte ⌝ }
 {
-    if byte < 48 {
+    if byte < b'0' {
         return 10;
     }
-    if byte > 57 {
+    if byte > b'9' {
         return 10;
     }
     byte as u64 - 48
@@ -113,7 +113,7 @@ fn number_from(text: &[u8], from: usize) -> NumberRead
         let byte = text[i];
         let d = digit(byte);
         if d > 9 {
-            if byte != 10 {
+            if byte != b'\n' {
                 return NumberRead::Broken;
             }
             if i == from {
@@ -142,25 +142,18 @@ fn number_from(text: &[u8], from: usize) -> NumberRead
 pub fn read_number(text: &[u8], at: usize, key: &[u8]) -> NumberRead
     ensures { λ r. ⌜ NumberAt (now (key .entry)) (now (text .entry)) at r ⌝ }
 {
-    let Place::At(from) = value_start(text, at, key) else {
+    let Position::At(from) = value_start(text, at, key) else {
         return NumberRead::Broken;
     };
     number_from(text, from)
 }
 
-// The number of a day: for the keys `day`, `usage`, `from` and `to`.
-pub fn read_day(text: &[u8], at: usize, key: &[u8]) -> NumberRead
-    ensures { λ r. ⌜ NumberAt (now (key .entry)) (now (text .entry)) at r ⌝ }
-{
-    read_number(text, at, key)
-}
-
 // ---- dates
 
 // The number that the two bytes at a place are, 100 for none.
-fn pair_at(value: &[u8], i: usize) -> u32
+fn two_digits(value: &[u8], i: usize) -> u32
     requires { ⌜ i + 2 ≤ length (now value) ⌝ }
-    ensures { λ r. ⌜ r ≡ pairOf (now (value .entry)) i ⌝ }
+    ensures { λ r. ⌜ r ≡ twoDigitsAt (now (value .entry)) i ⌝ }
 {
     let tens = digit(value[i]);
     let units = digit(value[i + 1]);
@@ -180,25 +173,25 @@ fn date_of(value: &[u8], next: usize) -> DateRead
     if value.len() != 10 {
         return DateRead::Broken;
     }
-    if value[4] != 45 {
+    if value[4] != b'-' {
         return DateRead::Broken;
     }
-    if value[7] != 45 {
+    if value[7] != b'-' {
         return DateRead::Broken;
     }
-    let century = pair_at(value, 0);
+    let century = two_digits(value, 0);
     if century > 99 {
         return DateRead::Broken;
     }
-    let years = pair_at(value, 2);
+    let years = two_digits(value, 2);
     if years > 99 {
         return DateRead::Broken;
     }
-    let month = pair_at(value, 5);
+    let month = two_digits(value, 5);
     if month > 99 {
         return DateRead::Broken;
     }
-    let day = pair_at(value, 8);
+    let day = two_digits(value, 8);
     if day > 99 {
         return DateRead::Broken;
     }

@@ -1,6 +1,6 @@
 -- The events of a text, and the loop over them: what it keeps, and one turn.
 -- Assumes nothing.
-use Prim.Native.Nat.{ℕ, _≤_, _<_}
+use Prim.Native.Nat.{ℕ, _≤_}
 use mathlib.Core.Path.{_≡_, refl, sym, ap, _∙_}
 use mathlib.Core.List.{List, [], _∷_}
 use native.Mathlib.Omega.{arith}
@@ -12,27 +12,21 @@ use Rattle.refinement.specs.Lists.{accountAfter}
 use Rattle.scanner.specs.Scanner.{got, broken}
 use Rattle.text.specs.Text.{readEvent}
 use Rattle.text.proofs.Laws.{event-progress}
-use Rattle.printing.proofs.Counts.{uncounted}
-use Rattle.transcript.proofs.Counts.{by-read}
-use Rattle.statement.specs.Statement.{eventsBy, eventsIn, eventsOf, CountSuffices}
+use Rattle.transcript.specs.Events.{foldEvents}
+use Rattle.transcript.proofs.Counts.{fold-got, fold-broken, fold-suffices}
+use Rattle.statement.specs.Statement.{eventList, eventsOf, EventsSuffice}
 
 -- ---- the events by what stands there, and that their count is enough
 
-module _ (more : List ℕ → List Event) (s : List ℕ) where
-  events-got : (e : Event) (r : List ℕ) → readEvent s ≡ got e r → eventsBy more s ≡ e ∷ more r
-  events-got e r g = rw (g, eventsBy)
+pub count-suffices : EventsSuffice
+count-suffices s = fold-suffices eventList tt s
 
-  events-broken : readEvent s ≡ broken → eventsBy more s ≡ []
-  events-broken g = rw (g, eventsBy)
+events-got : (s : List ℕ) (e : Event) (r : List ℕ) → readEvent s ≡ got e r → eventsOf s ≡ e ∷ eventsOf r
+events-got s e r g = count-suffices s ∙ fold-got eventList (foldEvents eventList) tt s r e (omega (arith, event-progress s e r g)) g
 
-local : (f g : List ℕ → List Event) (s : List ℕ) → ((r : List ℕ) → length r < length s → f r ≡ g r) → eventsBy f s ≡ eventsBy g s
-local f g s h = by-read (readEvent s)
-    (λ e r q. events-got f s e r q ∙ ap (λ (l : List Event). e ∷ l) (h r (omega (arith, event-progress s e r q))) ∙ sym (events-got g s e r q))
-    (λ q. events-broken f s q ∙ sym (events-broken g s q))
-
-pub count-suffices : CountSuffices
-unfolding eventsIn
-count-suffices s = uncounted length eventsBy eventsIn (λ k x. refl) local s
+events-broken : (s : List ℕ) → readEvent s ≡ broken → eventsOf s ≡ []
+events-broken [] g = count-suffices []
+events-broken (b ∷ s) g = count-suffices (b ∷ s) ∙ fold-broken eventList (foldEvents eventList) tt (b ∷ s) (omega arith) g
 
 -- ---- what the loop keeps
 
@@ -50,10 +44,10 @@ module _ (text : List ℕ) (start : ℕ) (a b : Account) (at : ℕ) (g : Going t
   turns e next c r within ec = record {
     inside = within;
     same = ap (λ (x : Account). accountAfter x (eventsOf (drop next text))) ec
-        ∙ sym (ap (accountAfter b) (count-suffices (drop at text) ∙ events-got eventsOf (drop at text) e (drop next text) r))
+        ∙ sym (ap (accountAfter b) (events-got (drop at text) e (drop next text) r))
         ∙ g .same;
   }
 
   pub stops : readEvent (drop at text) ≡ broken → b ≡ accountAfter a (eventsOf (drop start text))
   unfolding accountAfter
-  stops r = sym (ap (accountAfter b) (count-suffices (drop at text) ∙ events-broken eventsOf (drop at text) r)) ∙ g .same
+  stops r = sym (ap (accountAfter b) (events-broken (drop at text) r)) ∙ g .same

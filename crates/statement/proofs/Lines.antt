@@ -6,10 +6,11 @@ use Prim.Native.Nat.{ℕ, zero, suc, _+_}
 use native.Mathlib.Numerals.{add-one}
 use native.Mathlib.Omega.{arith}
 use Rattle.ledger.specs.declared.Summary.{Summary}
+use Rattle.scanner.specs.Scanner.{bytes, feed}
 use Rattle.printing.specs.Printing.{digits, decimal, signed, Wrote}
 use Rattle.printing.proofs.Laws.{over-none}
 use Rattle.printing.proofs.Placed.{wrote-then}
-use Rattle.transcript.specs.Transcript.{line, termsLine}
+use Rattle.transcript.specs.Transcript.{eventLine, termsLine}
 use Rattle.statement.specs.Statement.{summaryLine, monthLines}
 
 -- ---- the months' lines
@@ -27,14 +28,8 @@ unfolding monthLines
 same-lines f g h zero = refl
 same-lines f g h (suc n) = rw (same-lines f g h n, h n)
 
--- ---- `prepay`'s line for the terms, by its bytes: `n=0 code=`, the code, ` value=0 balance=0 plan=0` and the line feed
+-- ---- `prepay`'s line for the terms
 
-abbrev pub before-code : List ℕ
-before-code = 110 ∷ 61 ∷ 48 ∷ 32 ∷ 99 ∷ 111 ∷ 100 ∷ 101 ∷ 61 ∷ []
-
-abbrev pub after-code : List ℕ
-after-code = 32 ∷ 118 ∷ 97 ∷ 108 ∷ 117 ∷ 101 ∷ 61 ∷ 48 ∷ 32 ∷ 98 ∷ 97 ∷ 108 ∷ 97 ∷ 110 ∷ 99 ∷ 101 ∷ 61 ∷ 48 ∷ 32 ∷ 112 ∷ 108 ∷ 97 ∷ 110 ∷ 61 ∷ 48 ∷ 10 ∷ []
-
-pub terms-line : (code : ℕ) → before-code ++ (decimal code ++ after-code) ≡ termsLine code
-unfolding line decimal digits signed
+pub terms-line : (code : ℕ) → bytes "n=0 code=" ++ (decimal code ++ (bytes " value=0 balance=0 plan=0" ++ feed ∷ [])) ≡ termsLine code
+unfolding eventLine decimal digits signed
 terms-line code = refl

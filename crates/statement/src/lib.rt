@@ -16,14 +16,20 @@ ghost use Rattle.printing.specs.Printing.{Wrote};
 ghost use Rattle.refinement.specs.Lists.{accountAfter};
 ghost use Rattle.months.specs.Summary.{summaryOf};
 ghost use Rattle.transcript.specs.Transcript.{termsLine, byTerms};
-ghost use Rattle.statement.specs.Statement.{pair, firstPart, usagePart, lastPart, summaryLine, monthLines, eventsOf, CountSuffices, allMonths, Written};
+ghost use Rattle.statement.specs.Statement.{twoFields, paymentsPart, usagePart, chargesPart, summaryLine, paymentsRoom, usageRoom, chargesRoom, summaryRoom, statementRoom, monthCount, monthLines, eventsOf, EventsSuffice, allMonths, WholeStatement};
+
+// A buffer that holds any statement.
+const STATEMENT_ROOM: usize = 8192;
+
+// Months 0 to 14.
+const MONTHS: u32 = 15;
 
 // ---- one line
 
 // Two words, each with its number.
-fn put_pair(out: &mut [u8], at: usize, one: &[u8], n: u64, two: &[u8], k: u64) -> usize
+fn put_two(out: &mut [u8], at: usize, one: &[u8], n: u64, two: &[u8], k: u64) -> usize
     requires { ⌜ at + length (now one) + length (now two) + 40 ≤ length (now out) ⌝ }
-    ensures { λ r. ⌜ Wrote (now (out .entry)) at (pair (now (one .entry)) n (now (two .entry)) k) (now (out .exit)) r ⌝ }
+    ensures { λ r. ⌜ Wrote (now (out .entry)) at (twoFields (now (one .entry)) n (now (two .entry)) k) (now (out .exit)) r ⌝ }
     ensures { λ r. ⌜ r ≤ at + length (now (one .entry)) + length (now (two .entry)) + 40 ⌝ }
 {
     let next = put_field(out, at, one, n);
@@ -31,15 +37,15 @@ fn put_pair(out: &mut [u8], at: usize, one: &[u8], n: u64, two: &[u8], k: u64) -
 }
 
 // The month, its code and its payments.
-fn put_first(out: &mut [u8], at: usize, m: u32, s: Summary) -> usize
-    requires { ⌜ at + 180 ≤ length (now out) ⌝ }
-    ensures { λ r. ⌜ Wrote (now (out .entry)) at (firstPart m s) (now (out .exit)) r ⌝ }
-    ensures { λ r. ⌜ r ≤ at + 180 ⌝ }
+fn put_payments(out: &mut [u8], at: usize, m: u32, s: Summary) -> usize
+    requires { ⌜ at + paymentsRoom ≤ length (now out) ⌝ }
+    ensures { λ r. ⌜ Wrote (now (out .entry)) at (paymentsPart m s) (now (out .exit)) r ⌝ }
+    ensures { λ r. ⌜ r ≤ at + paymentsRoom ⌝ }
 {
     let kept = s.kept;
     let reversed = s.reversed;
-    let after_code = put_pair(out, at, b"m=", m as u64, b" code=", s.code as u64);
-    let after_kept = put_pair(
+    let after_code = put_two(out, at, b"m=", m as u64, b" code=", s.code as u64);
+    let after_kept = put_two(
         out,
         after_code,
         b" kept_count=",
@@ -47,7 +53,7 @@ fn put_first(out: &mut [u8], at: usize, m: u32, s: Summary) -> usize
         b" kept_sum=",
         kept.sum,
     );
-    put_pair(
+    put_two(
         out,
         after_kept,
         b" reversed_count=",
@@ -59,13 +65,13 @@ fn put_first(out: &mut [u8], at: usize, m: u32, s: Summary) -> usize
 
 // Its usage.
 fn put_usage(out: &mut [u8], at: usize, s: Summary) -> usize
-    requires { ⌜ at + 136 ≤ length (now out) ⌝ }
+    requires { ⌜ at + usageRoom ≤ length (now out) ⌝ }
     ensures { λ r. ⌜ Wrote (now (out .entry)) at (usagePart s) (now (out .exit)) r ⌝ }
-    ensures { λ r. ⌜ r ≤ at + 136 ⌝ }
+    ensures { λ r. ⌜ r ≤ at + usageRoom ⌝ }
 {
     let metered = s.metered;
     let estimated = s.estimated;
-    let after_metered = put_pair(
+    let after_metered = put_two(
         out,
         at,
         b" metered_wh=",
@@ -73,7 +79,7 @@ fn put_usage(out: &mut [u8], at: usize, s: Summary) -> usize
         b" metered_cost=",
         metered.cost,
     );
-    put_pair(
+    put_two(
         out,
         after_metered,
         b" estimated_wh=",
@@ -91,14 +97,14 @@ fn flag(b: bool) -> u64
 
 // Its charges by kind and its average price.
 fn put_charges(out: &mut [u8], at: usize, s: Summary) -> usize
-    requires { ⌜ at + 194 ≤ length (now out) ⌝ }
-    ensures { λ r. ⌜ Wrote (now (out .entry)) at (lastPart s) (now (out .exit)) r ⌝ }
-    ensures { λ r. ⌜ r ≤ at + 194 ⌝ }
+    requires { ⌜ at + chargesRoom ≤ length (now out) ⌝ }
+    ensures { λ r. ⌜ Wrote (now (out .entry)) at (chargesPart s) (now (out .exit)) r ⌝ }
+    ensures { λ r. ⌜ r ≤ at + chargesRoom ⌝ }
 {
     let charges = s.charges;
-    let after_2 = put_pair(out, at, b" kind1=", charges[0], b" kind2=", charges[1]);
-    let after_4 = put_pair(out, after_2, b" kind3=", charges[2], b" kind4=", charges[3]);
-    let after_average = put_pair(
+    let after_2 = put_two(out, at, b" kind1=", charges[0], b" kind2=", charges[1]);
+    let after_4 = put_two(out, after_2, b" kind3=", charges[2], b" kind4=", charges[3]);
+    let after_average = put_two(
         out,
         after_4,
         b" kind5=",
@@ -110,25 +116,25 @@ fn put_charges(out: &mut [u8], at: usize, s: Summary) -> usize
     put_bytes(out, after_missing, b"\n")
 }
 
-// A month's line, of 510 bytes at most.
+// A month's line.
 fn put_line(out: &mut [u8], at: usize, m: u32, s: Summary) -> usize
-    requires { ⌜ at + 510 ≤ length (now out) ⌝ }
+    requires { ⌜ at + summaryRoom ≤ length (now out) ⌝ }
     ensures { λ r. ⌜ Wrote (now (out .entry)) at (summaryLine m s) (now (out .exit)) r ⌝ }
-    ensures { λ r. ⌜ r ≤ at + 510 ⌝ }
+    ensures { λ r. ⌜ r ≤ at + summaryRoom ⌝ }
 {
-    let after_paid = put_first(out, at, m, s);
+    let after_paid = put_payments(out, at, m, s);
     let after_usage = put_usage(out, after_paid, s);
     put_charges(out, after_usage, s)
 }
 
 // The lines of months 0 to 14.
 fn put_months(out: &mut [u8], a: Account) -> usize
-    requires { ⌜ 8192 ≤ length (now out) ⌝ }
-    ensures { λ r. ⌜ Wrote (now (out .entry)) 0 (monthLines (λ (m : ℕ). summaryOf a m) 15) (now (out .exit)) r ⌝ }
+    requires { ⌜ statementRoom ≤ length (now out) ⌝ }
+    ensures { λ r. ⌜ Wrote (now (out .entry)) 0 (monthLines (λ (m : ℕ). summaryOf a m) monthCount) (now (out .exit)) r ⌝ }
 {
     let mut m: u32 = 0;
     let mut place: usize = 0;
-    while m < 15 {
+    while m < MONTHS {
         let s = months::summary(a, m);
         place = put_line(out, place, m, s);
         m += 1;
@@ -140,7 +146,7 @@ fn put_months(out: &mut [u8], a: Account) -> usize
 
 // The count of events in their definition leaves none out.
 pub fn count_suffices()
-    ensures { λ _. ⌜ CountSuffices ⌝ }
+    ensures { λ _. ⌜ EventsSuffice ⌝ }
 {}
 
 // The account after the events from a place of the text on, to its end or to the first that breaks the form.
@@ -167,7 +173,7 @@ fn post_events(text: &[u8], start: usize, a: Account) -> Account
 
 // The one line for terms that break their form or their limits: `prepay`'s.
 fn put_refusal(out: &mut [u8], code: u8) -> usize
-    requires { ⌜ 8192 ≤ length (now out) ⌝ }
+    requires { ⌜ statementRoom ≤ length (now out) ⌝ }
     ensures { λ r. ⌜ Wrote (now (out .entry)) 0 (termsLine code) (now (out .exit)) r ⌝ }
 {
     let after_code = put_field(out, 0, b"n=0 code=", code as u64);
@@ -176,7 +182,7 @@ fn put_refusal(out: &mut [u8], code: u8) -> usize
 
 // What the terms open, from the place after them on.
 fn put_account(text: &[u8], start: usize, terms: Terms, out: &mut [u8]) -> usize
-    requires { ⌜ (start ≤ length (now text)) × (8192 ≤ length (now out)) ⌝ }
+    requires { ⌜ (start ≤ length (now text)) × (statementRoom ≤ length (now out)) ⌝ }
     ensures { λ r. ⌜ Wrote (now (out .entry)) 0 (byTerms allMonths (got terms (drop start (now (text .entry))))) (now (out .exit)) r ⌝ }
 {
     let opened = account::open(terms);
@@ -188,14 +194,14 @@ fn put_account(text: &[u8], start: usize, terms: Terms, out: &mut [u8]) -> usize
     put_months(out, post_events(text, start, a))
 }
 
-// The statement of a text, from the start of the buffer on, and how many bytes it has. A buffer shorter than 8,192 bytes is left alone.
+// The statement of a text, from the start of the buffer on, and how many bytes it has. A buffer shorter than `STATEMENT_ROOM` is left alone.
 pub fn statement(text: &[u8], out: &mut [u8]) -> usize
-    ensures { λ r. ⌜ Written (now (text .entry)) (now (out .entry)) (now (out .exit)) r ⌝ }
+    ensures { λ r. ⌜ WholeStatement (now (text .entry)) (now (out .entry)) (now (out .exit)) r ⌝ }
 {
-    if out.len() < 8192 {
+    if out.len() < STATEMENT_ROOM {
         return 0;
     }
-    if text.len() > 65536 {
+    if text.len() > text::LONGEST {
         return put_refusal(out, 15);
     }
     let read = text::read_terms(text);

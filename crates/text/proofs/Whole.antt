@@ -6,23 +6,22 @@ use native.Mathlib.Omega.{arith}
 use lib.ListN.{length, drop, length-drop}
 use Rattle.calendar.specs.declared.Date.{Date}
 use Rattle.ledger.specs.declared.Event.{Event}
-use Rattle.scanner.specs.Scanner.{got, NumberAt, DateAt}
+use Rattle.scanner.specs.Scanner.{bytes, got, NumberAt, DateAt}
 use Rattle.scanner.specs.declared.NumberRead.the-variants as number-read
 use Rattle.scanner.specs.declared.DateRead.the-variants as date-read
-use Rattle.text.specs.Text.{kDay, kOpen, kPrice, kConnect, kCutoff, kShare, readFields, fieldsOf, eventOf, readEvent, readTerms, EventAt, TermsAt}
-use Rattle.text.specs.Places.{readBalances, BalancesAt, SortAt, FieldsAt}
+use Rattle.text.specs.Text.{readFields, sorts, fieldsIn, eventOf, readEvent, readTerms, EventAt, TermsAt}
+use Rattle.text.specs.Places.{SortAt, FieldsAt}
 use Rattle.text.specs.declared.EventRead.{EventRead}
 use Rattle.text.specs.declared.EventRead.the-variants as event-read
-use Rattle.text.specs.declared.TermsRead.{TermsRead}
 use Rattle.text.specs.declared.TermsRead.the-variants as terms-read
 use Rattle.text.proofs.Laws.{event-progress}
 
 module _ (s : List ℕ) (at : ℕ) where
-  pub no-day : NumberAt kDay s at number-read.Broken → EventAt s at event-read.Broken
+  pub no-day : NumberAt (bytes "day") s at number-read.Broken → EventAt s at event-read.Broken
   unfolding readEvent
   no-day h = simp h
 
-  module _ (d a : ℕ) (h : NumberAt kDay s at (number-read.Got d a)) where
+  module _ (d a : ℕ) (h : NumberAt (bytes "day") s at (number-read.Got d a)) where
     pub no-sort : SortAt s a number-read.Broken → EventAt s at event-read.Broken
     unfolding readEvent
     no-sort g = simp (h .0, g)
@@ -33,47 +32,41 @@ module _ (s : List ℕ) (at : ℕ) where
           let p : length s - next + 14 ≤ length s - at = simp length-drop at (event-progress (drop at s) e (drop next s) q) in
           omega arith
 
-      read-is : readEvent (drop at s) ≡ readFields (fieldsOf k) (eventOf d k) (drop b s)
+      read-is : readEvent (drop at s) ≡ readFields (fieldsIn sorts k) (eventOf d k) (drop b s)
       unfolding readEvent
       read-is = simp (h .0, g .0)
 
-      pub whole-event : (r : EventRead) → FieldsAt (fieldsOf k) (eventOf d k) s b r → EventAt s at r
+      pub whole-event : (r : EventRead) → FieldsAt (fieldsIn sorts k) (eventOf d k) s b r → EventAt s at r
       whole-event (event-read.Got e next) f = let q : readEvent (drop at s) ≡ got e (drop next s) = rw read-is (f .0) in (q, past e next (f .1) q, f .1)
       whole-event event-read.Broken f = rw read-is f
 
 -- ---- the terms
 
 module _ (s : List ℕ) where
-  pub no-open : DateAt kOpen s 0 date-read.Broken → TermsAt s terms-read.Broken
+  pub no-open : DateAt (bytes "open") s 0 date-read.Broken → TermsAt s terms-read.Broken
   unfolding readTerms
   no-open h = simp h
 
-  module _ (o : Date) (a : ℕ) (h : DateAt kOpen s 0 (date-read.Got o a)) where
-    pub no-price : NumberAt kPrice s a number-read.Broken → TermsAt s terms-read.Broken
+  module _ {o : Date} {a : ℕ} (h : DateAt (bytes "open") s 0 (date-read.Got o a)) where
+    pub no-price : NumberAt (bytes "price") s a number-read.Broken → TermsAt s terms-read.Broken
     unfolding readTerms
     no-price n = simp (h .0, n)
 
-    pub whole-terms : (p b : ℕ) → NumberAt kPrice s a (number-read.Got p b) → (r : TermsRead) → BalancesAt o p s b r → TermsAt s r
-    unfolding readTerms readBalances
-    whole-terms p b i (terms-read.Got t next) l = (simp (h .0, i .0) (l .0), l .1)
-    whole-terms p b i terms-read.Broken l = simp (h .0, i .0) l
+    module _ {p b : ℕ} (i : NumberAt (bytes "price") s a (number-read.Got p b)) where
+      pub no-connect : NumberAt (bytes "connect") s b number-read.Broken → TermsAt s terms-read.Broken
+      unfolding readTerms
+      no-connect n = simp (h .0, i .0, n)
 
--- from the line of `connect` on
-module _ (o : Date) (p : ℕ) (s : List ℕ) (at : ℕ) where
-  pub no-connect : NumberAt kConnect s at number-read.Broken → BalancesAt o p s at terms-read.Broken
-  unfolding readBalances
-  no-connect n = simp n
+      module _ {c d : ℕ} (j : NumberAt (bytes "connect") s b (number-read.Got c d)) where
+        pub no-cutoff : NumberAt (bytes "cutoff") s d number-read.Broken → TermsAt s terms-read.Broken
+        unfolding readTerms
+        no-cutoff n = simp (h .0, i .0, j .0, n)
 
-  module _ (c a : ℕ) (h : NumberAt kConnect s at (number-read.Got c a)) where
-    pub no-cutoff : NumberAt kCutoff s a number-read.Broken → BalancesAt o p s at terms-read.Broken
-    unfolding readBalances
-    no-cutoff n = simp (h .0, n)
+        module _ {f e : ℕ} (k : NumberAt (bytes "cutoff") s d (number-read.Got f e)) where
+          pub no-share : NumberAt (bytes "share") s e number-read.Broken → TermsAt s terms-read.Broken
+          unfolding readTerms
+          no-share n = simp (h .0, i .0, j .0, k .0, n)
 
-    module _ (f b : ℕ) (i : NumberAt kCutoff s a (number-read.Got f b)) where
-      pub no-share : NumberAt kShare s b number-read.Broken → BalancesAt o p s at terms-read.Broken
-      unfolding readBalances
-      no-share n = simp (h .0, i .0, n)
-
-      pub whole-balances : (m next : ℕ) → NumberAt kShare s b (number-read.Got m next) → BalancesAt o p s at (terms-read.Got (record { opened = o; price = p; connect = c; cutoff = f; share = m }) next)
-      unfolding readBalances
-      whole-balances m next n = (simp (h .0, i .0, n .0), n .1)
+          pub whole-terms : {m next : ℕ} → NumberAt (bytes "share") s e (number-read.Got m next) → TermsAt s (terms-read.Got (record { opened = o; price = p; connect = c; cutoff = f; share = m }) next)
+          unfolding readTerms
+          whole-terms n = (simp (h .0, i .0, j .0, k .0, n .0), n .1)

@@ -1,6 +1,5 @@
 // Event text: the terms and one event, read from its lines.
 // It uses the scanner of the lines, the ledger's event, the terms and the calendar's date. Its promises cite specs/Text.antt, and inside the crate specs/Places.antt.
-use calendar::Date;
 use ledger::Event;
 use scanner::DateRead;
 use scanner::NumberRead;
@@ -10,9 +9,11 @@ ghost use mathlib.Core.Path.{_≡_};
 ghost use mathlib.Core.List.{[], _∷_};
 ghost use Prim.Native.Nat.{_≤_};
 ghost use lib.ListN.{length};
-ghost use Rattle.scanner.specs.Scanner.{NumberAt};
-ghost use Rattle.text.specs.Text.{TermsAt, EventAt, sortOf, fieldsOf, keyOf, stored, kind as kindField, from as fromField, to as toField};
-ghost use Rattle.text.specs.Places.{BalancesAt, serviceOf, SortAt, fieldIs, FieldsAt};
+ghost use Rattle.text.specs.Text.{TermsAt, EventAt, fieldLine, sorts, sortIn, fieldsIn, stored};
+ghost use Rattle.text.specs.Places.{foundOr, SortAt, FieldsAt, NextAt};
+
+// The bytes of the longest text.
+pub const LONGEST: usize = 65536;
 
 // The terms at the start of a text and where its events start, or that they break the form.
 pub enum TermsRead {
@@ -49,17 +50,10 @@ pub fn read_terms(text: &[u8]) -> TermsRead
     let NumberRead::Got { value: price, next } = scanner::read_number(text, next, b"price") else {
         return TermsRead::Broken;
     };
-    read_balances(text, next, opened, price)
-}
-
-// The terms of an opening date and a price, from the line of `connect` on.
-fn read_balances(text: &[u8], at: usize, opened: Date, price: u32) -> TermsRead
-    ensures { λ r. ⌜ BalancesAt opened price (now (text .entry)) at r ⌝ }
-{
     let NumberRead::Got {
         value: connect,
         next,
-    } = scanner::read_number(text, at, b"connect")
+    } = scanner::read_number(text, next, b"connect")
     else {
         return TermsRead::Broken;
     };
@@ -85,51 +79,34 @@ fn read_balances(text: &[u8], at: usize, opened: Date, price: u32) -> TermsRead
 
 // ---- the words of `do`
 
-// The sort that a word names, 0 for none.
-fn sort_of(value: &[u8]) -> u32
-    ensures { λ r. ⌜ r ≡ sortOf (now (value .entry)) ⌝ }
+// The sort found so far, or else that of a word, if the value is it.
+fn found_or(found: u32, value: &[u8], word: &[u8], sort: u32) -> u32
+    ensures { λ r. ⌜ r ≡ foundOr found (now (value .entry)) (now (word .entry)) sort ⌝ }
 {
-    if scanner::same(value, b"pay") {
-        return 1;
+    if found != 0 {
+        return found;
     }
-    if scanner::same(value, b"reverse") {
-        return 2;
-    }
-    if scanner::same(value, b"credit") {
-        return 3;
-    }
-    if scanner::same(value, b"charge") {
-        return 4;
-    }
-    if scanner::same(value, b"estimate") {
-        return 5;
-    }
-    if scanner::same(value, b"read") {
-        return 6;
-    }
-    service_of(value)
-}
-
-// The same from `warn` on: the words of the service.
-fn service_of(value: &[u8]) -> u32
-    ensures { λ r. ⌜ r ≡ serviceOf (now (value .entry)) ⌝ }
-{
-    if scanner::same(value, b"warn") {
-        return 7;
-    }
-    if scanner::same(value, b"mark") {
-        return 8;
-    }
-    if scanner::same(value, b"plan") {
-        return 9;
-    }
-    if scanner::same(value, b"disconnect") {
-        return 10;
-    }
-    if scanner::same(value, b"connect") {
-        return 11;
+    if scanner::same(value, word) {
+        return sort;
     }
     0
+}
+
+// The sort that a word names, 0 for none.
+fn sort_of(value: &[u8]) -> u32
+    ensures { λ r. ⌜ r ≡ sortIn sorts (now (value .entry)) ⌝ }
+{
+    let found = found_or(0, value, b"pay", 1);
+    let found = found_or(found, value, b"reverse", 2);
+    let found = found_or(found, value, b"credit", 3);
+    let found = found_or(found, value, b"charge", 4);
+    let found = found_or(found, value, b"estimate", 5);
+    let found = found_or(found, value, b"read", 6);
+    let found = found_or(found, value, b"warn", 7);
+    let found = found_or(found, value, b"mark", 8);
+    let found = found_or(found, value, b"plan", 9);
+    let found = found_or(found, value, b"disconnect", 10);
+    found_or(found, value, b"connect", 11)
 }
 
 fn read_sort(text: &[u8], at: usize) -> NumberRead
@@ -147,24 +124,9 @@ fn read_sort(text: &[u8], at: usize) -> NumberRead
 
 // ---- the fields
 
-// The number under a field's key.
-fn read_under(text: &[u8], at: usize, field: Field) -> NumberRead
-    ensures { λ r. ⌜ NumberAt (keyOf (fieldIs field)) (now (text .entry)) at r ⌝ }
-{
-    match field {
-        Field::Amount => scanner::read_number(text, at, b"amount"),
-        Field::Number => scanner::read_number(text, at, b"number"),
-        Field::Kind => scanner::read_number(text, at, b"kind"),
-        Field::Usage => scanner::read_day(text, at, b"usage"),
-        Field::Wh => scanner::read_number(text, at, b"wh"),
-        Field::From => scanner::read_day(text, at, b"from"),
-        Field::To => scanner::read_day(text, at, b"to"),
-    }
-}
-
 // The event with a field's number.
 fn store(event: Event, field: Field, value: u32) -> Event
-    ensures { λ r. ⌜ r ≡ stored (fieldIs field) value event ⌝ }
+    ensures { λ r. ⌜ r ≡ stored field value event ⌝ }
 {
     let mut event = event;
     match field {
@@ -179,11 +141,11 @@ fn store(event: Event, field: Field, value: u32) -> Event
     event
 }
 
-// The event with one field more.
-fn read_field(text: &[u8], at: usize, field: Field, event: Event) -> EventRead
-    ensures { λ r. ⌜ FieldsAt (fieldIs field ∷ []) event (now (text .entry)) at r ⌝ }
+// The event with the number under a key in one field more.
+fn read_field(text: &[u8], at: usize, key: &[u8], field: Field, event: Event) -> EventRead
+    ensures { λ r. ⌜ FieldsAt (fieldLine (now (key .entry)) field ∷ []) event (now (text .entry)) at r ⌝ }
 {
-    let NumberRead::Got { value, next } = read_under(text, at, field) else {
+    let NumberRead::Got { value, next } = scanner::read_number(text, at, key) else {
         return EventRead::Broken;
     };
     EventRead::Got {
@@ -192,24 +154,14 @@ fn read_field(text: &[u8], at: usize, field: Field, event: Event) -> EventRead
     }
 }
 
-// The event with two.
-fn read_two(text: &[u8], at: usize, first: Field, second: Field, event: Event) -> EventRead
-    ensures { λ r. ⌜ FieldsAt (fieldIs first ∷ fieldIs second ∷ []) event (now (text .entry)) at r ⌝ }
+// The same after what was read before.
+fn read_next(text: &[u8], read: EventRead, key: &[u8], field: Field) -> EventRead
+    ensures { λ r. ⌜ NextAt (fieldLine (now (key .entry)) field) (now (text .entry)) read r ⌝ }
 {
-    let EventRead::Got { event, next } = read_field(text, at, first, event) else {
+    let EventRead::Got { event, next } = read else {
         return EventRead::Broken;
     };
-    read_field(text, next, second, event)
-}
-
-// The event with the three of a mark.
-fn read_mark(text: &[u8], at: usize, event: Event) -> EventRead
-    ensures { λ r. ⌜ FieldsAt (kindField ∷ fromField ∷ toField ∷ []) event (now (text .entry)) at r ⌝ }
-{
-    let EventRead::Got { event, next } = read_field(text, at, Field::Kind, event) else {
-        return EventRead::Broken;
-    };
-    read_two(text, next, Field::From, Field::To, event)
+    read_field(text, next, key, field, event)
 }
 
 // ---- an event
@@ -217,16 +169,26 @@ fn read_mark(text: &[u8], at: usize, event: Event) -> EventRead
 // The fields that the event's sort names.
 fn read_fields(text: &[u8], at: usize, event: Event) -> EventRead
     requires { ⌜ at ≤ length (now text) ⌝ }
-    ensures { λ r. ⌜ FieldsAt (fieldsOf (event .sort)) event (now (text .entry)) at r ⌝ }
+    ensures { λ r. ⌜ FieldsAt (fieldsIn sorts (event .sort)) event (now (text .entry)) at r ⌝ }
 {
     let sort = event.sort;
     match sort {
-        1 | 3 => read_field(text, at, Field::Amount, event),
-        2 => read_field(text, at, Field::Number, event),
-        4 => read_two(text, at, Field::Kind, Field::Amount, event),
-        5 | 6 => read_two(text, at, Field::Usage, Field::Wh, event),
-        8 => read_mark(text, at, event),
-        9 => read_field(text, at, Field::Kind, event),
+        1 | 3 => read_field(text, at, b"amount", Field::Amount, event),
+        2 => read_field(text, at, b"number", Field::Number, event),
+        4 => {
+            let charge = read_field(text, at, b"kind", Field::Kind, event);
+            read_next(text, charge, b"amount", Field::Amount)
+        }
+        5 | 6 => {
+            let used = read_field(text, at, b"usage", Field::Usage, event);
+            read_next(text, used, b"wh", Field::Wh)
+        }
+        8 => {
+            let mark = read_field(text, at, b"kind", Field::Kind, event);
+            let mark = read_next(text, mark, b"from", Field::From);
+            read_next(text, mark, b"to", Field::To)
+        }
+        9 => read_field(text, at, b"kind", Field::Kind, event),
         _ => EventRead::Got { event, next: at },
     }
 }
@@ -235,7 +197,7 @@ fn read_fields(text: &[u8], at: usize, event: Event) -> EventRead
 pub fn read_event(text: &[u8], at: usize) -> EventRead
     ensures { λ r. ⌜ EventAt (now (text .entry)) at r ⌝ }
 {
-    let NumberRead::Got { value: day, next } = scanner::read_day(text, at, b"day") else {
+    let NumberRead::Got { value: day, next } = scanner::read_number(text, at, b"day") else {
         return EventRead::Broken;
     };
     let NumberRead::Got { value: sort, next } = read_sort(text, next) else {

@@ -1,4 +1,4 @@
--- The lines by the head's step and the reading calls are the ledger's, for an account that stands for the ledger. Assumes nothing.
+-- The lines by the account's step and the reading calls are the ledger's, for an account that stands for the ledger. Assumes nothing.
 use Prim.Native.Nat.{ℕ, zero, suc, _+_, _-_, _≤_, _<_}
 use mathlib.Core.Path.{_≡_, refl, sym, ap, ap₂, _∙_}
 use mathlib.Core.Bool.{true, false}
@@ -22,50 +22,51 @@ use Rattle.refinement.proofs.Lists.{refinement-holds}
 use Rattle.readings.proofs.After.{balance-reading, settled-reading}
 use Rattle.scanner.specs.Scanner.{got, broken}
 use Rattle.text.specs.Text.{readTerms, readEvent}
-use Rattle.transcript.specs.Transcript.{line, closing, eventLines, termsLine, byTerms, allLines, transcript}
-use Rattle.transcript.specs.Pieces.{noTerms, startOf, begunOf, Begun}
+use Rattle.transcript.specs.Events.{foldIn, foldEvents}
+use Rattle.transcript.specs.Transcript.{ledgerLine, ledgerClosing, ledgerLines, termsLine, byTerms, allLines, transcript}
+use Rattle.transcript.specs.Pieces.{zeroTerms, startOf, begunOf, Begun}
 use Rattle.transcript.specs.declared.Progress.{Progress}
 use Rattle.transcript.proofs.Whole.{begun, events-left, refusal-left}
 use Rattle.transcript.proofs.Terms.{valid, refused, by-terms}
-use Rattle.transcript.specs.Work.{headLine, headClosing, headLines, headLinesOf}
-use Rattle.transcript.proofs.Counts.{by-read, ledger-got, ledger-broken, lines-got, lines-broken}
+use Rattle.transcript.specs.Work.{accountLine, accountClosing, accountLines}
+use Rattle.transcript.proofs.Counts.{by-read, fold-got, fold-broken}
 
 -- ---- one line
 
 module _ (t : Terms) (a : Account) (l : Ledger) (s : Stands t a l) where
-  closing-is : headClosing (a .totals) ≡ closing t l
+  closing-is : accountClosing (a .totals) ≡ ledgerClosing t l
   closing-is = rw (settled-reading t a l s, s .agree .sums .standing)
 
-  line-is : (n code value : ℕ) → headLine n code value (a .totals) ≡ line n code value (l .balance) (l .plan)
+  line-is : (n code value : ℕ) → accountLine n code value (a .totals) ≡ ledgerLine n code value l
   line-is n code value = rw (balance-reading t a l s, s .agree .sums .plan)
 
 -- ---- all lines
 
-pub lines-are : (t : Terms) → validTerms t ≡ true → (k : ℕ) (a : Account) (l : Ledger) (n : ℕ) (s : List ℕ) → Stands t a l → headLines k a n s ≡ eventLines k t l n s
-unfolding headLines eventLines
-lines-are t v zero a l n s h = refl
+pub lines-are : (t : Terms) → validTerms t ≡ true → (k : ℕ) (a : Account) (l : Ledger) (n : ℕ) (s : List ℕ) → Stands t a l → foldIn accountLines k (a, n) s ≡ foldIn (ledgerLines t) k (l, n) s
+unfolding foldIn
+lines-are t v zero a l n s h = closing-is t a l h
 lines-are t v (suc k) a l n [] h = closing-is t a l h
 lines-are t v (suc k) a l n (b ∷ s) h = by-read (readEvent (b ∷ s))
     (λ e r g.
     let f : Refinement t = refinement-holds t v in
     let m : Ledger = ledgerStep t l e .ledger in
     let st : Stands t (stepOf a e .account) m = f .again a l e h in
-    lines-got (headLines k) a n (b ∷ s) r e (omega arith) g
+    fold-got accountLines (foldIn accountLines k) (a, n) (b ∷ s) r e (omega arith) g
     ∙ ap₂ _++_
     (line-is t (stepOf a e .account) m st n (stepOf a e .code) (stepOf a e .value)
-    ∙ ap₂ (λ (c w : ℕ). line n c w (m .balance) (m .plan)) (f .code a l e h) (f .value a l e h))
+    ∙ ap₂ (λ (c w : ℕ). ledgerLine n c w m) (f .code a l e h) (f .value a l e h))
     (lines-are t v k (stepOf a e .account) m (n + 1) r st)
-    ∙ sym (ledger-got (eventLines k t) t l n b s e r g))
+    ∙ sym (fold-got (ledgerLines t) (foldIn (ledgerLines t) k) (l, n) (b ∷ s) r e (omega arith) g))
     (λ g.
-    lines-broken (headLines k) a n (b ∷ s) (omega arith) g
+    fold-broken accountLines (foldIn accountLines k) (a, n) (b ∷ s) (omega arith) g
     ∙ ap₂ _++_ (line-is t a l h n 15 0) (closing-is t a l h)
-    ∙ sym (ledger-broken (eventLines k t) t l n b s g))
+    ∙ sym (fold-broken (ledgerLines t) (foldIn (ledgerLines t) k) (l, n) (b ∷ s) (omega arith) g))
 
 -- ---- from the terms
 
 module _ (t : Terms) (o : Opened) (is : o ≡ openOf t) where
   pub opened : (text : List ℕ) (start : ℕ) → o .code ≡ 0
-      → headLinesOf (o .account) 1 (drop start text) ≡ byTerms allLines (got t (drop start text))
+      → foldEvents accountLines (o .account, 1) (drop start text) ≡ byTerms allLines (got t (drop start text))
   opened text start e =
       let v : validTerms t ≡ true = valid t o is e in
       simp v (rw (ap (λ (p : Opened). p .account) is) (lines-are t v (suc (length (drop start text))) (fresh t) opening 1 (drop start text) (refinement-holds t v .opens)))
@@ -86,12 +87,12 @@ module _ (t : Terms) (o : Opened) (is : o ≡ openOf t) where
       (λ z. l)
 
 -- terms that break their form
-pub begun-long : (text : List ℕ) → 65536 < length text → begunOf text ≡ startOf noTerms 0 15
+pub begun-long : (text : List ℕ) → 65536 < length text → begunOf text ≡ startOf zeroTerms 0 15
 begun-long text l = simp (lt-ltb 65536 (length text) l)
 
-pub begun-broken : (text : List ℕ) → length text ≤ 65536 → readTerms text ≡ broken → begunOf text ≡ startOf noTerms 0 15
+pub begun-broken : (text : List ℕ) → length text ≤ 65536 → readTerms text ≡ broken → begunOf text ≡ startOf zeroTerms 0 15
 begun-broken text l e = simp (le-ltb 65536 (length text) l, e)
 
-pub malformed-begun : (text : List ℕ) (p : Progress) → p ≡ startOf noTerms 0 15 → begunOf text ≡ startOf noTerms 0 15 → transcript text ≡ termsLine 15 → Begun text p
+pub malformed-begun : (text : List ℕ) (p : Progress) → p ≡ startOf zeroTerms 0 15 → begunOf text ≡ startOf zeroTerms 0 15 → transcript text ≡ termsLine 15 → Begun text p
 malformed-begun text p m b e =
-    rw m (begun text (startOf noTerms 0 15) (sym b) (refusal-left text (startOf noTerms 0 15) refl (omega arith) (λ z. omega (arith, z)) ∙ sym e) (λ z. absurd (omega (arith, z))))
+    rw m (begun text (startOf zeroTerms 0 15) (sym b) (refusal-left text (startOf zeroTerms 0 15) refl (omega arith) (λ z. omega (arith, z)) ∙ sym e) (λ z. absurd (omega (arith, z))))

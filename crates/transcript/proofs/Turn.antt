@@ -13,11 +13,12 @@ use Rattle.scanner.specs.Scanner.{got, broken}
 use Rattle.text.specs.Text.{readEvent}
 use Rattle.printing.specs.Printing.{Wrote}
 use Rattle.printing.proofs.Placed.{kept, wrote-then}
-use Rattle.transcript.specs.Work.{headLine, headClosing, headLinesBy, headLinesOf}
-use Rattle.transcript.specs.Pieces.{linesFrom, rest, reached, pieceBy, pieceFrom, Piece}
+use Rattle.transcript.specs.Events.{foldBy, foldEvents}
+use Rattle.transcript.specs.Work.{accountLine, accountClosing, accountLines}
+use Rattle.transcript.specs.Pieces.{linesFrom, remaining, amongEvents, pieceBy, pieceFrom, Piece}
 use Rattle.transcript.specs.declared.Progress.{Progress}
 use Rattle.transcript.proofs.Whole.{nothing-written, piece-of, events-left, by-events}
-use Rattle.transcript.proofs.Counts.{lines-got, lines-broken, lines-end, piece-end, piece-pause, piece-broken, piece-got, counts-suffice}
+use Rattle.transcript.proofs.Counts.{fold-got, fold-broken, fold-end, piece-end, piece-pause, piece-broken, piece-got, counts-suffice}
 
 -- ---- what the loop keeps
 
@@ -59,7 +60,7 @@ module _ (text : List ℕ) (a : Account) (start k : ℕ) (first out : List ℕ) 
 
   pub turns : (e : Event) (next : ℕ) (q : Posted) (after : List ℕ) (r : ℕ) → at < length text
       → readEvent (drop at text) ≡ got e (drop next text) → at + 14 ≤ next → next ≤ length text → 174 ≤ length out - place
-      → q ≡ stepOf b e → Wrote out place (headLine (count + 1) (q .code) (q .value) (q .account .totals)) after r → r ≤ place + 114
+      → q ≡ stepOf b e → Wrote out place (accountLine (count + 1) (q .code) (q .value) (q .account .totals)) after r → r ≤ place + 114
       → Going text a start k first after (q .account) next (count + 1) r
   turns e next q after r h g′ far within roomy eq w short = record {
     counted = omega (arith, g .counted);
@@ -67,14 +68,14 @@ module _ (text : List ℕ) (a : Account) (start k : ℕ) (first out : List ℕ) 
     low = omega (arith, g .low);
     room = omega (arith, kept w);
     moved = λ z. (omega (arith, g .from), within);
-    lines = g .lines ++ headLine (count + 1) (q .code) (q .value) (q .account .totals);
+    lines = g .lines ++ accountLine (count + 1) (q .code) (q .value) (q .account .totals);
     wrote = wrote-then (g .wrote) w;
-    goal = then-left (headLine (count + 1) (q .code) (q .value) (q .account .totals)) (linesFrom text (q .account) next (count + 1)) line-by-line;
+    goal = then-left (accountLine (count + 1) (q .code) (q .value) (q .account .totals)) (linesFrom text (q .account) next (count + 1)) line-by-line;
     far = g .far ∙ line-further;
   }
     where
       bytes : Posted → ℕ
-      bytes p = length (headLine (count + 1) (p .code) (p .value) (p .account .totals))
+      bytes p = length (accountLine (count + 1) (p .code) (p .value) (p .account .totals))
 
       line-further : pieceFrom (length first) text b at count place ≡ pieceFrom (length first) text (q .account) next (count + 1) r
       line-further =
@@ -85,24 +86,24 @@ module _ (text : List ℕ) (a : Account) (start k : ℕ) (first out : List ℕ) 
           ∙ ap₂ (λ (x y : ℕ). pieceFrom (length first) text (stepOf b e .account) x (count + 1) y) there put
           ∙ ap (λ (p : Posted). pieceFrom (length first) text (p .account) next (count + 1) r) (sym eq)
 
-      line-by-line : linesFrom text b at count ≡ headLine (count + 1) (q .code) (q .value) (q .account .totals) ++ linesFrom text (q .account) next (count + 1)
+      line-by-line : linesFrom text b at count ≡ accountLine (count + 1) (q .code) (q .value) (q .account .totals) ++ linesFrom text (q .account) next (count + 1)
       line-by-line = rw eq
-          (counts-suffice .head-lines b (count + 1) (drop at text)
-          ∙ lines-got headLinesOf b (count + 1) (drop at text) (drop next text) e (some h) g′)
+          (counts-suffice .account-lines (b, count + 1) (drop at text)
+          ∙ fold-got accountLines (foldEvents accountLines) (b, count + 1) (drop at text) (drop next text) e (some h) g′)
 
 -- ---- how it ends
 
 module _ (text : List ℕ) (p : Progress) (first out : List ℕ) (b : Account) (at count place : ℕ) (g : Going text (p .account) (p .at) (p .count) first out b at count place)
     (d : p .done ≡ false) (c : p .code ≡ 0) (counted : p .count ≤ p .at) (roomy : 174 ≤ length first) where
-  left-then : (more left : List ℕ) → linesFrom text b at count ≡ more ++ left → rest text p ≡ (g .lines ++ more) ++ left
+  left-then : (more left : List ℕ) → linesFrom text b at count ≡ more ++ left → remaining text p ≡ (g .lines ++ more) ++ left
   left-then more left e = events-left text p d c counted ∙ then-left text (p .account) (p .at) (p .count) first out b at count place g more left e
 
   -- there is no room for another line
-  pub pauses : at < length text → length out - place < 174 → Piece text p first out (reached b at count place false)
+  pub pauses : at < length text → length out - place < 174 → Piece text p first out (amongEvents b at count place false)
   pauses l h =
       let same : length out ≡ length first = kept (g .wrote) in
       let far = g .moved (omega arith) in
-      let q : Progress = reached b at count place false in
+      let q : Progress = amongEvents b at count place false in
       piece-of text p q
       (sym (by-events text p (length first) d c counted roomy ∙ g .far ∙ counts-suffice .pieces (length first) text b at count place ∙ piece-pause (pieceFrom (length first) text) (length first) text b at count place l (omega arith)))
       (g .wrote)
@@ -110,24 +111,24 @@ module _ (text : List ℕ) (p : Progress) (first out : List ℕ) (b : Account) (
       (λ f. (c, far .0, far .1, omega arith, g .low))
 
   -- the last piece
-  module _ (after more : List ℕ) (r : ℕ) (w : Wrote out place more after r) (e : headLinesBy headLinesOf b (count + 1) (drop at text) ≡ more)
-      (f : pieceBy (pieceFrom (length first) text) (length first) text b at count place ≡ reached b at count r true) where
-    closes : Piece text p first after (reached b at count r true)
-    closes = piece-of text p (reached b at count r true) (sym (by-events text p (length first) d c counted roomy ∙ g .far ∙ counts-suffice .pieces (length first) text b at count place ∙ f)) (wrote-then (g .wrote) w)
-        (left-then more [] (counts-suffice .head-lines b (count + 1) (drop at text) ∙ e ∙ sym (append-nil more))) (λ x. absurd (true≢false x))
+  module _ (after more : List ℕ) (r : ℕ) (w : Wrote out place more after r) (e : foldBy accountLines (foldEvents accountLines) (b, count + 1) (drop at text) ≡ more)
+      (f : pieceBy (pieceFrom (length first) text) (length first) text b at count place ≡ amongEvents b at count r true) where
+    closes : Piece text p first after (amongEvents b at count r true)
+    closes = piece-of text p (amongEvents b at count r true) (sym (by-events text p (length first) d c counted roomy ∙ g .far ∙ counts-suffice .pieces (length first) text b at count place ∙ f)) (wrote-then (g .wrote) w)
+        (left-then more [] (counts-suffice .account-lines (b, count + 1) (drop at text) ∙ e ∙ sym (append-nil more))) (λ x. absurd (true≢false x))
 
   pub stops : (mid after : List ℕ) (r q : ℕ) → at < length text → 174 ≤ length out - place → readEvent (drop at text) ≡ broken
-      → Wrote out place (headLine (count + 1) 15 0 (b .totals)) mid r → Wrote mid r (headClosing (b .totals)) after q
-      → Piece text p first after (reached b at count q true)
+      → Wrote out place (accountLine (count + 1) 15 0 (b .totals)) mid r → Wrote mid r (accountClosing (b .totals)) after q
+      → Piece text p first after (amongEvents b at count q true)
   stops mid after r q h l g′ w v =
       let same : length out ≡ length first = kept (g .wrote) in
       closes after _ q (wrote-then w v)
-      (lines-broken headLinesOf b (count + 1) (drop at text) (rw (length-drop at text) (omega arith)) g′)
+      (fold-broken accountLines (foldEvents accountLines) (b, count + 1) (drop at text) (rw (length-drop at text) (omega arith)) g′)
       (piece-broken (pieceFrom (length first) text) (length first) text b at count place h (omega arith) g′
-      ∙ ap (λ (n : ℕ). reached b at count n true) (sym (v .next ∙ ap (λ (n : ℕ). n + length (headClosing (b .totals))) (w .next))))
+      ∙ ap (λ (n : ℕ). amongEvents b at count n true) (sym (v .next ∙ ap (λ (n : ℕ). n + length (accountClosing (b .totals))) (w .next))))
 
-  pub ends : (after : List ℕ) (q : ℕ) → length text ≤ at → Wrote out place (headClosing (b .totals)) after q
-      → Piece text p first after (reached b at count q true)
+  pub ends : (after : List ℕ) (q : ℕ) → length text ≤ at → Wrote out place (accountClosing (b .totals)) after q
+      → Piece text p first after (amongEvents b at count q true)
   ends after q h w = closes after _ q w
-      (lines-end headLinesOf b (count + 1) (drop at text) (rw (length-drop at text) (omega arith)))
-      (piece-end (pieceFrom (length first) text) (length first) text b at count place h ∙ ap (λ (n : ℕ). reached b at count n true) (sym (w .next)))
+      (fold-end accountLines (foldEvents accountLines) (b, count + 1) (drop at text) (rw (length-drop at text) (omega arith)))
+      (piece-end (pieceFrom (length first) text) (length first) text b at count place h ∙ ap (λ (n : ℕ). amongEvents b at count n true) (sym (w .next)))

@@ -13,22 +13,22 @@ use Rattle.printing.proofs.Placed.{from-start}
 use Rattle.moves.specs.declared.Totals.{Totals}
 use Rattle.ledger.proofs.Cases.{decide}
 use Rattle.readings.specs.Readings.{balanceOf}
-use Rattle.transcript.specs.Transcript.{transcript, termsLine, Written}
-use Rattle.transcript.specs.Work.{headLine}
-use Rattle.transcript.specs.Pieces.{linesFrom, rest, stays, pieceFrom, pieceOf, begunOf, Piece, Printed, last, then, Begun}
+use Rattle.transcript.specs.Transcript.{transcript, termsLine, WholeTranscript}
+use Rattle.transcript.specs.Work.{accountLine}
+use Rattle.transcript.specs.Pieces.{linesFrom, remaining, withLength, pieceFrom, pieceOf, begunOf, Piece, Printed, finished, piece-then, Begun}
 use Rattle.transcript.specs.declared.Progress.{Progress}
 
 -- ---- what is still to be printed
 
-pub events-left : (s : List ℕ) (p : Progress) → p .done ≡ false → p .code ≡ 0 → p .count ≤ p .at → rest s p ≡ linesFrom s (p .account) (p .at) (p .count)
+pub events-left : (s : List ℕ) (p : Progress) → p .done ≡ false → p .code ≡ 0 → p .count ≤ p .at → remaining s p ≡ linesFrom s (p .account) (p .at) (p .count)
 events-left s p d c h = simp (d, c, le-leb (p .count) (p .at) h)
 
 -- terms that are malformed or refused
-pub refusal-left : (s : List ℕ) (p : Progress) → p .done ≡ false → p .count ≤ p .at → (p .code ≡ 0 → ⊥) → rest s p ≡ termsLine (p .code)
+pub refusal-left : (s : List ℕ) (p : Progress) → p .done ≡ false → p .count ≤ p .at → (p .code ≡ 0 → ⊥) → remaining s p ≡ termsLine (p .code)
 refusal-left s p d h n = simp (d, le-leb (p .count) (p .at) h, ne-eqb (p .code) 0 n)
 
 -- more events than bytes
-none-left : (s : List ℕ) (p : Progress) → p .done ≡ false → p .at < p .count → rest s p ≡ []
+none-left : (s : List ℕ) (p : Progress) → p .done ≡ false → p .at < p .count → remaining s p ≡ []
 none-left s p d h = simp (d, lt-leb (p .count) (p .at) h)
 
 -- ---- one piece
@@ -55,19 +55,19 @@ pub nothing-written : (b : List ℕ) → Wrote b 0 [] b 0
 unfolding over
 nothing-written b = record { buffer = refl; next = refl; room = omega arith }
 
-pub piece-of : (s : List ℕ) (p q : Progress) {b x after : List ℕ} → q ≡ pieceOf s p (length b) → Wrote b 0 x after (q .length) → rest s p ≡ x ++ rest s q
+pub piece-of : (s : List ℕ) (p q : Progress) {b x after : List ℕ} → q ≡ pieceOf s p (length b) → Wrote b 0 x after (q .length) → remaining s p ≡ x ++ remaining s q
     → (q .done ≡ false → (p .code ≡ 0) × (p .at < q .at) × (q .at ≤ length s) × (length b < q .length + 174) × (q .length ≤ 9 * q .at))
     → Piece s p b after q
 piece-of s p q {b} {x} {after} is w e m = record {
   progress = is;
-  lines = e ∙ ap (λ (l : List ℕ). l ++ rest s q) (sym (front w));
+  lines = e ∙ ap (λ (l : List ℕ). l ++ remaining s q) (sym (front w));
   others = past w;
   inside = omega (arith, w .room, w .next);
   more = λ h. m;
 }
 
 -- no piece: the buffer is too short, the last piece was printed, or there are more events than bytes
-no-piece : (s b : List ℕ) (p : Progress) (done : Bool) → stays p 0 done ≡ pieceOf s p (length b) → rest s p ≡ rest s (stays p 0 done) → (174 ≤ length b → done ≡ true) → Piece s p b b (stays p 0 done)
+no-piece : (s b : List ℕ) (p : Progress) (done : Bool) → withLength p 0 done ≡ pieceOf s p (length b) → remaining s p ≡ remaining s (withLength p 0 done) → (174 ≤ length b → done ≡ true) → Piece s p b b (withLength p 0 done)
 no-piece s b p done is e d = record {
   progress = is;
   lines = e;
@@ -77,23 +77,23 @@ no-piece s b p done is e d = record {
 }
 
 module _ (s b : List ℕ) (p : Progress) where
-  pub too-short : length b < 174 → Piece s p b b (stays p 0 (p .done))
+  pub too-short : length b < 174 → Piece s p b b (withLength p 0 (p .done))
   too-short h = no-piece s b p (p .done) (simp (lt-ltb (length b) 174 h)) refl (λ g. absurd (omega arith))
 
   module _ (roomy : 174 ≤ length b) where
-    pub ended : p .done ≡ true → Piece s p b b (stays p 0 (p .done))
+    pub ended : p .done ≡ true → Piece s p b b (withLength p 0 (p .done))
     ended d = no-piece s b p (p .done) (simp (le-ltb (length b) 174 roomy, d)) refl (λ g. d)
 
-    pub too-many : p .done ≡ false → p .at < p .count → Piece s p b b (stays p 0 true)
+    pub too-many : p .done ≡ false → p .at < p .count → Piece s p b b (withLength p 0 true)
     too-many d h = no-piece s b p true (simp (le-ltb (length b) 174 roomy, d, lt-ltb (p .at) (p .count) h)) (none-left s p d h) (λ g. refl)
 
 -- the line of terms that are malformed or refused
 pub refused : (s : List ℕ) (p : Progress) {b after : List ℕ} {r : ℕ} → p .done ≡ false → p .count ≤ p .at → (p .code ≡ 0 → ⊥) → 174 ≤ length b
-    → Wrote b 0 (headLine 0 (p .code) 0 no-totals) after r → Piece s p b after (stays p r true)
+    → Wrote b 0 (accountLine 0 (p .code) 0 no-totals) after r → Piece s p b after (withLength p r true)
 unfolding balanceOf
 refused s p {b} {after} {r} d h n roomy w =
-    piece-of s p (stays p r true)
-    (simp (le-ltb (length b) 174 roomy, d, le-ltb (p .at) (p .count) h, ne-eqb (p .code) 0 n) (ap (λ (k : ℕ). stays p k true) (w .next ∙ zero-add (length (termsLine (p .code))))))
+    piece-of s p (withLength p r true)
+    (simp (le-ltb (length b) 174 roomy, d, le-ltb (p .at) (p .count) h, ne-eqb (p .code) 0 n) (ap (λ (k : ℕ). withLength p k true) (w .next ∙ zero-add (length (termsLine (p .code))))))
     w
     (refusal-left s p d h n ∙ sym (append-nil (termsLine (p .code))))
     (λ g. absurd (true≢false g))
@@ -106,11 +106,11 @@ by-events s p room d c h roomy = simp (le-ltb room 174 roomy, d, le-ltb (p .at) 
 
 -- ---- all pieces
 
-printed : (s : List ℕ) (p : Progress) (w : List ℕ) → Printed s p w → w ≡ rest s p
-printed s _ _ (last p h) = sym (simp h)
-printed s _ _ (then p q before after v m more) = ap (λ (x : List ℕ). take (q .length) after ++ x) (printed s q v more) ∙ sym (m .lines)
+printed : (s : List ℕ) (p : Progress) (w : List ℕ) → Printed s p w → w ≡ remaining s p
+printed s _ _ (finished p h) = sym (simp h)
+printed s _ _ (piece-then p q before after v m more) = ap (λ (x : List ℕ). take (q .length) after ++ x) (printed s q v more) ∙ sym (m .lines)
 
-pub begun : (s : List ℕ) (p : Progress) → p ≡ begunOf s → rest s p ≡ transcript s → (p .code ≡ 0 → length s ≤ 65536) → Begun s p
+pub begun : (s : List ℕ) (p : Progress) → p ≡ begunOf s → remaining s p ≡ transcript s → (p .code ≡ 0 → length s ≤ 65536) → Begun s p
 begun s p is e l = record { progress = is; all = e; pieces = λ w x. printed s p w x ∙ e; bounded = l }
 
 -- ---- the whole
@@ -125,7 +125,7 @@ module _ (s before after : List ℕ) (p q : Progress) (begins : Begun s p) (m : 
   long : q .length ≡ length (transcript s)
   long = sym (ap length all ∙ length-take-le (q .length) after (omega (arith, m .inside)))
 
-  pub whole : Written s before after (q .length)
+  pub whole : WholeTranscript s before after (q .length)
   whole = record {
     answer = simp (le-ltb (length before) 655360 roomy) long;
     buffer = simp (le-ltb (length before) 655360 roomy)

@@ -1,4 +1,5 @@
 pub mod Counts
+pub mod Events
 pub mod Pieces
 pub mod Transcript
 pub mod Work

@@ -1,6 +1,6 @@
 // What `prepay` prints for a text: whole into a lent buffer, or in pieces through one of any size.
 // It uses the event text, the terms, the account, the moves, the marks, the readings and the printing. Its promises cite
-// specs/Transcript.antt, specs/Counts.antt and specs/Pieces.antt, which stands on specs/Work.antt.
+// specs/Transcript.antt, specs/Counts.antt and specs/Pieces.antt, which stand on specs/Events.antt and specs/Work.antt.
 use account::Account;
 use calendar::Date;
 use moves::Totals;
@@ -15,10 +15,15 @@ ghost use mathlib.Core.Bool.{false};
 ghost use Prim.Native.Nat.{_+_, _≤_};
 ghost use lib.ListN.{length};
 ghost use Rattle.printing.specs.Printing.{Wrote};
-ghost use Rattle.transcript.specs.Transcript.{Written};
-ghost use Rattle.transcript.specs.Work.{headLine, headClosing};
-ghost use Rattle.transcript.specs.Pieces.{noTerms, startOf, Begun, Piece};
+ghost use Rattle.transcript.specs.Transcript.{WholeTranscript};
+ghost use Rattle.transcript.specs.Work.{accountLine, accountClosing};
+ghost use Rattle.transcript.specs.Pieces.{eventRoom, lastRoom, pieceRoom, zeroTerms, startOf, Begun, Piece};
 ghost use Rattle.transcript.specs.Counts.{CountsSuffice};
+
+// A buffer with room for an event's line and the last line; one that holds any transcript.
+const PIECE_ROOM: usize = 174;
+
+const TRANSCRIPT_ROOM: usize = 655360;
 
 // How far a text is printed.
 pub struct Progress {
@@ -36,11 +41,11 @@ pub struct Progress {
 
 // ---- one line
 
-// The line of an event, by the totals after it: 114 bytes at most.
+// The line of an event, by the totals after it.
 fn put_event(out: &mut [u8], at: usize, n: u64, code: u8, value: u64, s: Totals) -> usize
-    requires { ⌜ at + 114 ≤ length (now out) ⌝ }
-    ensures { λ r. ⌜ Wrote (now (out .entry)) at (headLine n code value s) (now (out .exit)) r ⌝ }
-    ensures { λ r. ⌜ r ≤ at + 114 ⌝ }
+    requires { ⌜ at + eventRoom ≤ length (now out) ⌝ }
+    ensures { λ r. ⌜ Wrote (now (out .entry)) at (accountLine n code value s) (now (out .exit)) r ⌝ }
+    ensures { λ r. ⌜ r ≤ at + eventRoom ⌝ }
 {
     let balance = readings::balance(s);
     let plan = readings::plan(s);
@@ -52,10 +57,10 @@ fn put_event(out: &mut [u8], at: usize, n: u64, code: u8, value: u64, s: Totals)
     put_bytes(out, after_plan, b"\n")
 }
 
-// The last line, by the totals: 60 bytes at most.
+// The last line, by the totals.
 fn put_closing(out: &mut [u8], at: usize, s: Totals) -> usize
-    requires { ⌜ at + 60 ≤ length (now out) ⌝ }
-    ensures { λ r. ⌜ Wrote (now (out .entry)) at (headClosing s) (now (out .exit)) r ⌝ }
+    requires { ⌜ at + lastRoom ≤ length (now out) ⌝ }
+    ensures { λ r. ⌜ Wrote (now (out .entry)) at (accountClosing s) (now (out .exit)) r ⌝ }
 {
     let settled = readings::settled(s);
     let estimates = readings::estimates(s);
@@ -73,7 +78,7 @@ pub fn counts_suffice()
 
 // The lines of the events, while there is room for one and for the last line, and the last line.
 fn put_events(text: &[u8], p: Progress, out: &mut [u8]) -> Progress
-    requires { ⌜ (p .done ≡ false) × (p .code ≡ 0) × (p .count ≤ p .at) × (174 ≤ length (now out)) ⌝ }
+    requires { ⌜ (p .done ≡ false) × (p .code ≡ 0) × (p .count ≤ p .at) × (pieceRoom ≤ length (now out)) ⌝ }
     ensures { λ q. ⌜ Piece (now (text .entry)) p (now (out .entry)) (now (out .exit)) q ⌝ }
 {
     let mut b = p.account;
@@ -81,7 +86,7 @@ fn put_events(text: &[u8], p: Progress, out: &mut [u8]) -> Progress
     let mut count = p.count;
     let mut place: usize = 0;
     while at < text.len() {
-        if out.len() - place < 174 {
+        if out.len() - place < PIECE_ROOM {
             return Progress {
                 account: b,
                 at,
@@ -144,7 +149,7 @@ fn put_events(text: &[u8], p: Progress, out: &mut [u8]) -> Progress
 
 // Terms that break their form, before their line is printed.
 fn malformed() -> Progress
-    ensures { λ r. ⌜ r ≡ startOf noTerms 0 15 ⌝ }
+    ensures { λ r. ⌜ r ≡ startOf zeroTerms 0 15 ⌝ }
 {
     let terms = Terms {
         opened: Date {
@@ -173,7 +178,7 @@ fn malformed() -> Progress
 pub fn begin(text: &[u8]) -> Progress
     ensures { λ r. ⌜ Begun (now (text .entry)) r ⌝ }
 {
-    if text.len() > 65536 {
+    if text.len() > text::LONGEST {
         return malformed();
     }
     let TermsRead::Got { terms, next } = text::read_terms(text) else {
@@ -192,13 +197,13 @@ pub fn begin(text: &[u8]) -> Progress
     }
 }
 
-// The next piece, from the start of the buffer on. A buffer of less than 174 bytes gets none.
+// The next piece, from the start of the buffer on. A buffer shorter than `PIECE_ROOM` gets none.
 pub fn piece(text: &[u8], p: Progress, out: &mut [u8]) -> Progress
     ensures { λ q. ⌜ Piece (now (text .entry)) p (now (out .entry)) (now (out .exit)) q ⌝ }
 {
     let mut q = p;
     q.length = 0;
-    if out.len() < 174 {
+    if out.len() < PIECE_ROOM {
         return q;
     }
     if p.done {
@@ -225,11 +230,11 @@ pub fn piece(text: &[u8], p: Progress, out: &mut [u8]) -> Progress
     q
 }
 
-// The transcript of a text, from the start of the buffer on, and how many bytes it has. A buffer shorter than 655,360 bytes is left alone.
+// The transcript of a text, from the start of the buffer on, and how many bytes it has. A buffer shorter than `TRANSCRIPT_ROOM` is left alone.
 pub fn transcript(text: &[u8], out: &mut [u8]) -> usize
-    ensures { λ r. ⌜ Written (now (text .entry)) (now (out .entry)) (now (out .exit)) r ⌝ }
+    ensures { λ r. ⌜ WholeTranscript (now (text .entry)) (now (out .entry)) (now (out .exit)) r ⌝ }
 {
-    if out.len() < 655360 {
+    if out.len() < TRANSCRIPT_ROOM {
         return 0;
     }
     let p = begin(text);

@@ -15,20 +15,8 @@ Inv-loop n k₀ rest₀ k rest = k + length (decimal rest) ≡ length (decimal n
 abbrev μ-loop : tie.MeasureT-loop
 μ-loop n k₀ rest₀ k rest = rest
 
-loop-holds : tie.Need-loop-holds Inv-loop μ-loop
-loop-holds c = omega arith
-
 add-k : tie.Need-add-k Inv-loop μ-loop
 add-k c = omega (arith, length-decimal (c .before .before .args .n) (c .before .before .fits .n .fits), some-digit (c .before .loop .rest))
 
-loop-less : tie.Need-loop-less Inv-loop μ-loop
-loop-less c = omega arith
-
-loop-again : tie.Need-loop-again Inv-loop μ-loop
-loop-again c = omega (arith, length-high (c .before .loop .rest) (c .loop-test .taken))
-
-returns : tie.Need-returns Inv-loop μ-loop
-returns c = omega (arith, ap length (decimal-low (c .before .loop .rest) (c .loop-test .left)))
-
 pub places-spec : {M : Type 1} → statement M
-places-spec = tie.close (tie.spec Inv-loop μ-loop loop-holds add-k loop-less loop-again returns)
+places-spec = tie.close (tie.spec Inv-loop μ-loop (λ c. omega arith) add-k (λ c. omega arith) (λ c. omega (arith, length-high (c .before .loop .rest) (c .loop-test .taken))) (λ c. omega (arith, ap length (decimal-low (c .before .loop .rest) (c .loop-test .left)))))

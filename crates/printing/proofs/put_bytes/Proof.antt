@@ -19,22 +19,10 @@ Inv-loop out₀ at bytes count i₀ out i = (i ≤ length bytes) × (at + length
 abbrev μ-loop : tie.MeasureT-loop
 μ-loop out₀ at bytes count i₀ out i = length bytes - i
 
-room-requires : tie.Need-room-requires Inv-loop μ-loop
-room-requires c κs = search needs
-
-returns : tie.Need-returns Inv-loop μ-loop
-returns c = puts-nothing _ _ _ (sym (c .before .room .ensures) ∙ not-true _ (c .if1 .taken))
-
 loop-holds : tie.Need-loop-holds Inv-loop μ-loop
 loop-holds c =
     let a = c .before .before .before .before .args in
     (omega arith, leb-true (a .at + length (now (a .bytes))) (length (now (a .out))) (sym (c .before .room .ensures) ∙ not-false _ (c .if1 .left)), paste-zero (now (a .out)) (a .at) (now (a .bytes)))
-
-shared-slice-read-out : tie.Need-shared-slice-read-out Inv-loop μ-loop
-shared-slice-read-out c = omega arith
-
-add-out : tie.Need-add-out Inv-loop μ-loop
-add-out c = omega arith
 
 slice-write-out : tie.Need-slice-write-out Inv-loop μ-loop
 slice-write-out c =
@@ -42,20 +30,11 @@ slice-write-out c =
     let l = c .before .before .loop in
     rw (l .inv .2, length-paste (now (a .out)) (a .at) (now (a .bytes)) (l .i) (omega arith) (l .inv .0)) (omega arith)
 
-add-i : tie.Need-add-i Inv-loop μ-loop
-add-i c = omega arith
-
-loop-less : tie.Need-loop-less Inv-loop μ-loop
-loop-less c = omega arith
-
 loop-again : tie.Need-loop-again Inv-loop μ-loop
 loop-again c =
     let a = c .before .before .before .before .before .before .before .args in
     let l = c .before .before .loop in
     (omega arith, l .inv .1, rw (add-one (l .i), l .inv .2) (paste-suc (now (a .out)) (a .at) (now (a .bytes)) (l .i) 0 (omega arith) (omega arith)))
-
-add-result : tie.Need-add-result Inv-loop μ-loop
-add-result c = omega arith
 
 same-length : tie.Need-same-length Inv-loop μ-loop
 same-length c =
@@ -76,15 +55,15 @@ put-bytes-spec =
     (tie.spec
     Inv-loop
     μ-loop
-    room-requires
-    returns
+    (λ c κs. search needs)
+    (λ c. puts-nothing _ _ _ (sym (c .before .room .ensures) ∙ not-true _ (c .if1 .taken)))
     loop-holds
-    shared-slice-read-out
-    add-out
+    (λ c. omega arith)
+    (λ c. omega arith)
     slice-write-out
-    add-i
-    loop-less
+    (λ c. omega arith)
+    (λ c. omega arith)
     loop-again
-    add-result
+    (λ c. omega arith)
     same-length
     returns-2)

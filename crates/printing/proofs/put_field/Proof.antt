@@ -31,22 +31,10 @@ left c =
     let a = digits .before .before .before .args in
     omega (arith, room-after (now (a .word)) (decimal (a .n)) (c .put-bytes .ensures) (fit (c .before .before)), digits .places .ensures)
 
-places-requires : tie.Need-places-requires
-places-requires c κs = search needs
-
 add-room : tie.Need-add-room
 add-room c =
     let s = c .before .before .before in
     omega (arith, c .places .ensures, length-decimal (s .args .n) (s .fits .n .fits), s .good)
-
-room-requires : tie.Need-room-requires
-room-requires c κs = search needs
-
-returns : tie.Need-returns
-returns c = puts-nothing _ _ _ (sym (tested (c .before)) ∙ not-true _ (c .if1 .taken))
-
-put-bytes-requires : tie.Need-put-bytes-requires
-put-bytes-requires c κs = search needs
 
 add-end : tie.Need-add-end
 add-end c =
@@ -57,9 +45,6 @@ spell-requires : tie.Need-spell-requires
 spell-requires c κs =
     let put = c .before .before .before in
     (omega (arith, put .before .before .before .before .places .ensures), left put)
-
-same-length : tie.Need-same-length
-same-length c = search needs
 
 returns-2 : tie.Need-returns-2
 returns-2 c =
@@ -73,12 +58,12 @@ pub put-field-spec : {M : Type 1} → statement M
 put-field-spec =
     tie.close
     (tie.spec
-    places-requires
+    (λ c κs. search needs)
     add-room
-    room-requires
-    returns
-    put-bytes-requires
+    (λ c κs. search needs)
+    (λ c. puts-nothing _ _ _ (sym (tested (c .before)) ∙ not-true _ (c .if1 .taken)))
+    (λ c κs. search needs)
     add-end
     spell-requires
-    same-length
+    (λ c. search needs)
     returns-2)

@@ -52,48 +52,12 @@ wanted c =
 end : (c : tie.After-put-bytes) → c .put-bytes .result + 1 + c .before .before .before .before .places .result < 2 ^ 64
 end c = omega (arith, left c, c .put-bytes .kept .0, c .before .before .before .before .before .before .before .before .before .good)
 
-magnitude-requires : tie.Need-magnitude-requires
-magnitude-requires c κs = search needs
-
-put-field-requires : tie.Need-put-field-requires
-put-field-requires c κs = search needs
-
-same-length : tie.Need-same-length
-same-length c = search needs
-
 returns : tie.Need-returns
 returns c =
     let above = c .before .before .before .before in
     let m = above .before in
     let s = m .before .before .before in
     rw (signed-above (s .args .z) (s .fits .z) (above .if1 .taken), sym (size m)) (c .before .before .put-field .ensures)
-
-places-requires : tie.Need-places-requires
-places-requires c κs = search needs
-
-add-room : tie.Need-add-room
-add-room c = omega (arith, wanted c)
-
-add-room-2 : tie.Need-add-room-2
-add-room-2 c = omega (arith, wanted c)
-
-room-requires : tie.Need-room-requires
-room-requires c κs = search needs
-
-returns-2 : tie.Need-returns-2
-returns-2 c = puts-nothing _ _ _ (sym (tested (c .before)) ∙ not-true _ (c .if2 .taken))
-
-put-bytes-requires : tie.Need-put-bytes-requires
-put-bytes-requires c κs = search needs
-
-slice-write-out : tie.Need-slice-write-out
-slice-write-out c = omega (arith, left (c .before .before))
-
-add-first : tie.Need-add-first
-add-first c = omega (arith, end (c .before .before))
-
-add-end : tie.Need-add-end
-add-end c = omega (arith, end (c .before .before))
 
 spell-requires : tie.Need-spell-requires
 spell-requires c κs =
@@ -120,19 +84,19 @@ pub put-sum-spec : {M : Type 1} → statement M
 put-sum-spec =
     tie.close
     (tie.spec
-    magnitude-requires
-    put-field-requires
-    same-length
+    (λ c κs. search needs)
+    (λ c κs. search needs)
+    (λ c. search needs)
     returns
-    places-requires
-    add-room
-    add-room-2
-    room-requires
-    returns-2
-    put-bytes-requires
-    slice-write-out
-    add-first
-    add-end
+    (λ c κs. search needs)
+    (λ c. omega (arith, wanted c))
+    (λ c. omega (arith, wanted c))
+    (λ c κs. search needs)
+    (λ c. puts-nothing _ _ _ (sym (tested (c .before)) ∙ not-true _ (c .if2 .taken)))
+    (λ c κs. search needs)
+    (λ c. omega (arith, left (c .before .before)))
+    (λ c. omega (arith, end (c .before .before)))
+    (λ c. omega (arith, end (c .before .before)))
     spell-requires
     same-length-2
     returns-3)

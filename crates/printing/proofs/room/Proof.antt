@@ -7,11 +7,5 @@ use Rattle.printing.proofs.Laws.{moved-over}
 use Rattle.printing.proofs.room.Statement.{statement}
 use Rattle.printing.proofs.room.Tie as tie
 
-returns : tie.Need-returns
-returns c = let a = c .before .args in sym (lt-leb (a .at + a .count) (a .length) (omega arith))
-
-returns-2 : tie.Need-returns-2
-returns-2 c = let a = c .before .args in moved-over (a .at) (a .count) (a .length) (c .if1 .left)
-
 pub room-spec : {M : Type 1} → statement M
-room-spec = tie.close (tie.spec returns returns-2)
+room-spec = tie.close (tie.spec (λ c. let a = c .before .args in sym (lt-leb (a .at + a .count) (a .length) (omega arith))) (λ c. let a = c .before .args in moved-over (a .at) (a .count) (a .length) (c .if1 .left)))

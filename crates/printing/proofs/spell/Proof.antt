@@ -17,26 +17,8 @@ Inv-loop out₀ at end n i₀ rest₀ out i rest =
 abbrev μ-loop : tie.MeasureT-loop
 μ-loop out₀ at end n i₀ rest₀ out i rest = rest
 
-sub-i : tie.Need-sub-i Inv-loop μ-loop
-sub-i c = omega (arith, some-digit (c .args .n))
-
-loop-holds : tie.Need-loop-holds Inv-loop μ-loop
-loop-holds c = (omega (arith, some-digit (c .args .n)), omega arith, refl, refl)
-
-cast-out : tie.Need-cast-out Inv-loop μ-loop
-cast-out c = omega arith
-
-add-out : tie.Need-add-out Inv-loop μ-loop
-add-out c = omega arith
-
-slice-write-out : tie.Need-slice-write-out Inv-loop μ-loop
-slice-write-out c = omega arith
-
 sub-i-2 : tie.Need-sub-i-2 Inv-loop μ-loop
 sub-i-2 c = omega (arith, length-high (c .before .loop .rest) (c .loop-test .taken), some-digit (c .before .loop .rest / 10))
-
-loop-less : tie.Need-loop-less Inv-loop μ-loop
-loop-less c = omega arith
 
 loop-again : tie.Need-loop-again Inv-loop μ-loop
 loop-again c =
@@ -52,18 +34,6 @@ loop-again c =
           ∙ l .inv .3),
     )
 
-cast-out-2 : tie.Need-cast-out-2 Inv-loop μ-loop
-cast-out-2 c = omega arith
-
-add-out-2 : tie.Need-add-out-2 Inv-loop μ-loop
-add-out-2 c = omega arith
-
-slice-write-out-2 : tie.Need-slice-write-out-2 Inv-loop μ-loop
-slice-write-out-2 c = omega arith
-
-same-length : tie.Need-same-length Inv-loop μ-loop
-same-length c = simp length-set (c .before .loop .inv .2)
-
 returns : tie.Need-returns Inv-loop μ-loop
 returns c =
     let a = c .before .before .args in
@@ -78,16 +48,16 @@ spell-spec =
     (tie.spec
     Inv-loop
     μ-loop
-    sub-i
-    loop-holds
-    cast-out
-    add-out
-    slice-write-out
+    (λ c. omega (arith, some-digit (c .args .n)))
+    (λ c. (omega (arith, some-digit (c .args .n)), omega arith, refl, refl))
+    (λ c. omega arith)
+    (λ c. omega arith)
+    (λ c. omega arith)
     sub-i-2
-    loop-less
+    (λ c. omega arith)
     loop-again
-    cast-out-2
-    add-out-2
-    slice-write-out-2
-    same-length
+    (λ c. omega arith)
+    (λ c. omega arith)
+    (λ c. omega arith)
+    (λ c. simp length-set (c .before .loop .inv .2))
     returns)

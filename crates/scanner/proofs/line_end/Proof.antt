@@ -17,28 +17,10 @@ Inv-loop text at i₀ i = (at ≤ i) × ((k : ℕ) → k < i → at ≤ k → ge
 abbrev μ-loop : tie.MeasureT-loop
 μ-loop text at i₀ i = length text - i
 
-loop-holds : tie.Need-loop-holds Inv-loop μ-loop
-loop-holds c = (search needs, λ k l a z. omega arith)
-
-shared-slice-read-if1 : tie.Need-shared-slice-read-if1 Inv-loop μ-loop
-shared-slice-read-if1 c = search needs
-
 returns : tie.Need-returns Inv-loop μ-loop
 returns c =
     let l = c .before .before .before .loop in
     (feed-found _ _ (l .i) (l .inv .0) (search needs) (c .if1 .taken) (l .inv .1), search needs, search needs)
-
-add-i : tie.Need-add-i Inv-loop μ-loop
-add-i c = search needs
-
-loop-less : tie.Need-loop-less Inv-loop μ-loop
-loop-less c = search needs
-
-loop-again : tie.Need-loop-again Inv-loop μ-loop
-loop-again c = (search needs, below-more _ _ (c .before .before .before .loop .inv .1) (λ a. c .if1 .left))
-
-returns-2 : tie.Need-returns-2 Inv-loop μ-loop
-returns-2 c = let l = c .before .loop in feed-none _ _ (l .i) (search needs) (l .inv .1)
 
 pub line-end-spec : {M : Type 1} → statement M
 line-end-spec =
@@ -46,10 +28,10 @@ line-end-spec =
     (tie.spec
     Inv-loop
     μ-loop
-    loop-holds
-    shared-slice-read-if1
+    (λ c. (search needs, λ k l a z. omega arith))
+    (λ c. search needs)
     returns
-    add-i
-    loop-less
-    loop-again
-    returns-2)
+    (λ c. search needs)
+    (λ c. search needs)
+    (λ c. (search needs, below-more _ _ (c .before .before .before .loop .inv .1) (λ a. c .if1 .left)))
+    (λ c. let l = c .before .loop in feed-none _ _ (l .i) (search needs) (l .inv .1)))

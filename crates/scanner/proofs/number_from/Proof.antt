@@ -36,12 +36,6 @@ loop-holds c =
     let a = c .before .args in
     (search needs, search needs, λ e. refl, from-start (a .text .now) (a .from) (a .from) 0 refl)
 
-shared-slice-read-byte : tie.Need-shared-slice-read-byte Inv-loop μ-loop
-shared-slice-read-byte c = search needs
-
-digit-requires : tie.Need-digit-requires Inv-loop μ-loop
-digit-requires c κs = search needs
-
 returns : tie.Need-returns Inv-loop μ-loop
 returns c =
     let w = c .before .before .before .before in
@@ -51,12 +45,6 @@ returns-2 : tie.Need-returns-2 Inv-loop μ-loop
 returns-2 c =
     let w = c .before .before .before .before .before in
     w .before .loop .inv .3 ∙ empty-number (text w) (from w) (w .before .loop .i) (w .before .loop .n) (w .loop-test .taken) (c .before .if2 .left) (c .if3 .taken)
-
-cast-t12 : tie.Need-cast-t12 Inv-loop μ-loop
-cast-t12 c = search needs
-
-add-t13 : tie.Need-add-t13 Inv-loop μ-loop
-add-t13 c = search needs
 
 returns-3 : tie.Need-returns-3 Inv-loop μ-loop
 returns-3 c =
@@ -68,22 +56,10 @@ returns-4 c =
     let w = c .before .before .before .before .before in
     w .before .loop .inv .3 ∙ leading-zero (text w) (from w) (w .before .loop .i) (w .before .loop .n) (w .loop-test .taken) _ (a-digit (byte w) _ (c .before .before .before .digit .ensures) (c .before .before .if1 .left)) (c .if5 .taken) (c .before .if4 .taken)
 
-mul-n : tie.Need-mul-n Inv-loop μ-loop
-mul-n c = search needs
-
-add-n : tie.Need-add-n Inv-loop μ-loop
-add-n c = search needs
-
 returns-5 : tie.Need-returns-5 Inv-loop μ-loop
 returns-5 c =
     let w = c .before .before .before .before .before in
     w .before .loop .inv .3 ∙ above (text w) (from w) (w .before .loop .i) (w .before .loop .n) (w .loop-test .taken) _ (a-digit (byte w) _ (c .before .before .before .digit .ensures) (c .before .before .if1 .left)) (w .before .loop .inv .0) (w .before .loop .inv .2) (follows (c .before)) (c .if6 .taken)
-
-add-i : tie.Need-add-i Inv-loop μ-loop
-add-i c = search needs
-
-loop-less : tie.Need-loop-less Inv-loop μ-loop
-loop-less c = search needs
 
 loop-again : tie.Need-loop-again Inv-loop μ-loop
 loop-again c =
@@ -103,18 +79,18 @@ number-from-spec =
     Inv-loop
     μ-loop
     loop-holds
-    shared-slice-read-byte
-    digit-requires
+    (λ c. search needs)
+    (λ c κs. search needs)
     returns
     returns-2
-    cast-t12
-    add-t13
+    (λ c. search needs)
+    (λ c. search needs)
     returns-3
     returns-4
-    mul-n
-    add-n
+    (λ c. search needs)
+    (λ c. search needs)
     returns-5
-    add-i
-    loop-less
+    (λ c. search needs)
+    (λ c. search needs)
     loop-again
     returns-6)

@@ -12,31 +12,10 @@ use Rattle.scanner.proofs.read_date.Tie as tie
 valued : (c : tie.After-from) → let a = c .before .before .before .before .before .args in ValueAt (a .key .now) (a .text .now) (a .at) (Got (c .from .given .0 .0) (c .from .given .0 .1 .0) (c .from .given .0 .1 .1 .0))
 valued c = subst (ValueAt _ _ _) (c .from .given .1) (c .before .before .read-value .ensures)
 
-read-value-requires : tie.Need-read-value-requires
-read-value-requires c κs = search needs
-
-enum-known-from : tie.Need-enum-known-from
-enum-known-from c = search needs
-
-enum-told : tie.Need-enum-told
-enum-told c = search needs
-
 returns : tie.Need-returns
 returns c =
     let a = c .before .before .before .before .before .args in
     no-date (a .key .now) (a .text .now) (a .at) (subst (ValueAt _ _ _) (c .enum-told .given .1) (c .before .before .read-value .ensures))
-
-sub-date-of : tie.Need-sub-date-of
-sub-date-of c = omega (arith, valued (c .before))
-
-part-date-of-start : tie.Need-part-date-of-start
-part-date-of-start c = omega (arith, valued (c .before))
-
-part-date-of-end : tie.Need-part-date-of-end
-part-date-of-end c = omega (arith, valued (c .before))
-
-date-of-requires : tie.Need-date-of-requires
-date-of-requires c κs = search needs
 
 returns-2 : tie.Need-returns-2
 returns-2 c =
@@ -48,12 +27,12 @@ pub read-date-spec : {M : Type 1} → statement M
 read-date-spec =
     tie.close
     (tie.spec
-    read-value-requires
-    enum-known-from
-    enum-told
+    (λ c κs. search needs)
+    (λ c. search needs)
+    (λ c. search needs)
     returns
-    sub-date-of
-    part-date-of-start
-    part-date-of-end
-    date-of-requires
+    (λ c. omega (arith, valued (c .before)))
+    (λ c. omega (arith, valued (c .before)))
+    (λ c. omega (arith, valued (c .before)))
+    (λ c κs. search needs)
     returns-2)

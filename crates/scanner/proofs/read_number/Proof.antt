@@ -6,22 +6,10 @@ use Rattle.scanner.proofs.Values.{no-number, number-is}
 use Rattle.scanner.proofs.read_number.Statement.{statement}
 use Rattle.scanner.proofs.read_number.Tie as tie
 
-value-start-requires : tie.Need-value-start-requires
-value-start-requires c κs = search needs
-
-enum-known-from : tie.Need-enum-known-from
-enum-known-from c = search needs
-
-enum-told : tie.Need-enum-told
-enum-told c = search needs
-
 returns : tie.Need-returns
 returns c =
     let a = c .before .before .before .before .before .args in
     no-number (a .key .now) (a .text .now) (a .at) (subst (StartAt _ _ _) (c .enum-told .given .1) (c .before .before .value-start .ensures))
-
-number-from-requires : tie.Need-number-from-requires
-number-from-requires c κs = search needs
 
 returns-2 : tie.Need-returns-2
 returns-2 c =
@@ -33,9 +21,9 @@ pub read-number-spec : {M : Type 1} → statement M
 read-number-spec =
     tie.close
     (tie.spec
-    value-start-requires
-    enum-known-from
-    enum-told
+    (λ c κs. search needs)
+    (λ c. search needs)
+    (λ c. search needs)
     returns
-    number-from-requires
+    (λ c κs. search needs)
     returns-2)

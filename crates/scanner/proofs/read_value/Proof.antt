@@ -3,7 +3,7 @@ use mathlib.Core.Path.{subst, _∙_}
 use native.Mathlib.Omega.{arith}
 use borrow.Author.Needs.{needs}
 use Rattle.scanner.specs.Places.{FeedAt, StartAt}
-use Rattle.scanner.specs.declared.Place.the-variants.{At}
+use Rattle.scanner.specs.declared.Position.the-variants.{At}
 use Rattle.scanner.proofs.Lines.{no-start, started}
 use Rattle.scanner.proofs.read_value.Statement.{statement}
 use Rattle.scanner.proofs.read_value.Tie as tie
@@ -16,26 +16,8 @@ start c = subst (StartAt _ _ _) (c .from .given .1) (c .before .before .value-st
 found : (c : tie.After-end) → let f = c .before .before .before .before in FeedAt (f .before .before .before .before .before .args .text .now) (f .from .given .0 .0) (At (c .end .given .0 .0))
 found c = subst (FeedAt _ _) (c .end .given .1) (c .before .before .line-end .ensures)
 
-value-start-requires : tie.Need-value-start-requires
-value-start-requires c κs = search needs
-
-enum-known-from : tie.Need-enum-known-from
-enum-known-from c = search needs
-
-enum-told : tie.Need-enum-told
-enum-told c = search needs
-
 returns : tie.Need-returns
 returns c = no-start _ _ (subst (StartAt _ _ _) (c .enum-told .given .1) (c .before .before .value-start .ensures))
-
-line-end-requires : tie.Need-line-end-requires
-line-end-requires c κs = search needs
-
-enum-known-end : tie.Need-enum-known-end
-enum-known-end c = search needs
-
-enum-told-2 : tie.Need-enum-told-2
-enum-told-2 c = search needs
 
 returns-2 : tie.Need-returns-2
 returns-2 c =
@@ -53,13 +35,13 @@ pub read-value-spec : {M : Type 1} → statement M
 read-value-spec =
     tie.close
     (tie.spec
-    value-start-requires
-    enum-known-from
-    enum-told
+    (λ c κs. search needs)
+    (λ c. search needs)
+    (λ c. search needs)
     returns
-    line-end-requires
-    enum-known-end
-    enum-told-2
+    (λ c κs. search needs)
+    (λ c. search needs)
+    (λ c. search needs)
     returns-2
     add-next
     returns-3)

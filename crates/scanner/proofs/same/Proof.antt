@@ -16,29 +16,11 @@ Inv-loop value word i₀ i = (length value ≡ length word) × (same word value 
 abbrev μ-loop : tie.MeasureT-loop
 μ-loop value word i₀ i = length word - i
 
-returns : tie.Need-returns Inv-loop μ-loop
-returns c = sym (other-length _ _ (λ z. omega (arith, c .if1 .taken)))
-
-loop-holds : tie.Need-loop-holds Inv-loop μ-loop
-loop-holds c = (c .if1 .left, refl)
-
-shared-slice-read-if2 : tie.Need-shared-slice-read-if2 Inv-loop μ-loop
-shared-slice-read-if2 c = search needs
-
-shared-slice-read-if2-2 : tie.Need-shared-slice-read-if2-2 Inv-loop μ-loop
-shared-slice-read-if2-2 c = search needs
-
 returns-2 : tie.Need-returns-2 Inv-loop μ-loop
 returns-2 c =
     let l = c .before .before .before .before .loop in
     let a = c .before .before .before .before .before .before .args in
     sym (l .inv .1 ∙ same-other (a .word .now) (a .value .now) (l .i) (search needs) (search needs) (c .if2 .taken))
-
-add-i : tie.Need-add-i Inv-loop μ-loop
-add-i c = search needs
-
-loop-less : tie.Need-loop-less Inv-loop μ-loop
-loop-less c = search needs
 
 loop-again : tie.Need-loop-again Inv-loop μ-loop
 loop-again c =
@@ -58,12 +40,12 @@ same-spec =
     (tie.spec
     Inv-loop
     μ-loop
-    returns
-    loop-holds
-    shared-slice-read-if2
-    shared-slice-read-if2-2
+    (λ c. sym (other-length _ _ (λ z. omega (arith, c .if1 .taken))))
+    (λ c. (c .if1 .left, refl))
+    (λ c. search needs)
+    (λ c. search needs)
     returns-2
-    add-i
-    loop-less
+    (λ c. search needs)
+    (λ c. search needs)
     loop-again
     returns-3)

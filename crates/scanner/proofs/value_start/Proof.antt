@@ -5,19 +5,16 @@ use mathlib.Core.Path.{_≡_, refl, _∙_}
 use mathlib.Core.List.{[], _∷_, _++_}
 use lib.ListN.{length, drop}
 use borrow.Author.Needs.{needs}
-use Rattle.scanner.specs.Scanner.{after, equals}
+use Rattle.scanner.specs.Scanner.{bytes, afterPrefix}
 use Rattle.scanner.proofs.Lines.{text-ends, key-turn, key-other, key-ends, no-equals}
 use Rattle.scanner.proofs.value_start.Statement.{statement}
 use Rattle.scanner.proofs.value_start.Tie as tie
 
 abbrev Inv-loop : tie.InvT-loop
-Inv-loop text at key i₀ j₀ i j = after (key ++ equals ∷ []) (drop at text) ≡ after (drop i key ++ equals ∷ []) (drop j text)
+Inv-loop text at key i₀ j₀ i j = afterPrefix (key ++ bytes "=") (drop at text) ≡ afterPrefix (drop i key ++ bytes "=") (drop j text)
 
 abbrev μ-loop : tie.MeasureT-loop
 μ-loop text at key i₀ j₀ i j = length key - i
-
-loop-holds : tie.Need-loop-holds Inv-loop μ-loop
-loop-holds c = refl
 
 returns : tie.Need-returns Inv-loop μ-loop
 returns c =
@@ -25,26 +22,11 @@ returns c =
     let a = c .before .before .before .args in
     l .inv ∙ text-ends (a .key .now) (a .text .now) (l .i) (l .j) (c .if1 .taken)
 
-shared-slice-read-if2 : tie.Need-shared-slice-read-if2 Inv-loop μ-loop
-shared-slice-read-if2 c = search needs
-
-shared-slice-read-if2-2 : tie.Need-shared-slice-read-if2-2 Inv-loop μ-loop
-shared-slice-read-if2-2 c = search needs
-
 returns-2 : tie.Need-returns-2 Inv-loop μ-loop
 returns-2 c =
     let l = c .before .before .before .before .before .loop in
     let a = c .before .before .before .before .before .before .args in
     l .inv ∙ key-other (a .key .now) (a .text .now) (l .i) (l .j) (c .before .before .before .before .loop-test .taken) (c .before .before .before .if1 .left) (c .if2 .taken)
-
-add-i : tie.Need-add-i Inv-loop μ-loop
-add-i c = search needs
-
-add-j : tie.Need-add-j Inv-loop μ-loop
-add-j c = search needs
-
-loop-less : tie.Need-loop-less Inv-loop μ-loop
-loop-less c = search needs
 
 loop-again : tie.Need-loop-again Inv-loop μ-loop
 loop-again c =
@@ -58,17 +40,11 @@ returns-3 c =
     let a = c .before .before .before .args in
     l .inv ∙ text-ends (a .key .now) (a .text .now) (l .i) (l .j) (c .if3 .taken)
 
-shared-slice-read-if4 : tie.Need-shared-slice-read-if4 Inv-loop μ-loop
-shared-slice-read-if4 c = search needs
-
 returns-4 : tie.Need-returns-4 Inv-loop μ-loop
 returns-4 c =
     let l = c .before .before .before .before .loop in
     let a = c .before .before .before .before .before .args in
     l .inv ∙ no-equals (a .key .now) (a .text .now) (l .i) (l .j) (c .before .before .before .loop-test .left) (c .before .before .if3 .left) (c .if4 .taken)
-
-add-t12 : tie.Need-add-t12 Inv-loop μ-loop
-add-t12 c = search needs
 
 returns-5 : tie.Need-returns-5 Inv-loop μ-loop
 returns-5 c =
@@ -82,17 +58,17 @@ value-start-spec =
     (tie.spec
     Inv-loop
     μ-loop
-    loop-holds
+    (λ c. refl)
     returns
-    shared-slice-read-if2
-    shared-slice-read-if2-2
+    (λ c. search needs)
+    (λ c. search needs)
     returns-2
-    add-i
-    add-j
-    loop-less
+    (λ c. search needs)
+    (λ c. search needs)
+    (λ c. search needs)
     loop-again
     returns-3
-    shared-slice-read-if4
+    (λ c. search needs)
     returns-4
-    add-t12
+    (λ c. search needs)
     returns-5)

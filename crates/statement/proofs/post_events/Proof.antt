@@ -21,28 +21,10 @@ abbrev μ-loop : tie.MeasureT-loop
 read-as : (c : tie.After-read Inv-loop μ-loop) → EventAt (now (c .before .before .before .before .before .args .text)) (c .before .before .before .loop .at) (Got (c .read .given .0 .0) (c .read .given .0 .1 .0))
 read-as c = rw (c .read .given .1) at (c .before .before .read-event .ensures)
 
-loop-holds : tie.Need-loop-holds Inv-loop μ-loop
-loop-holds c = begins _ _ _ (c .before .pre)
-
-read-event-requires : tie.Need-read-event-requires Inv-loop μ-loop
-read-event-requires c κs = search needs
-
-enum-known-read : tie.Need-enum-known-read Inv-loop μ-loop
-enum-known-read c = search needs
-
-post-by-value-requires : tie.Need-post-by-value-requires Inv-loop μ-loop
-post-by-value-requires c κs = search needs
-
-loop-less : tie.Need-loop-less Inv-loop μ-loop
-loop-less c = let e = read-as (c .before .before .before) in omega (arith, e .1, e .2)
-
 loop-again : tie.Need-loop-again Inv-loop μ-loop
 loop-again c =
     let e = read-as (c .before .before .before) in
     turns _ _ _ _ _ (c .before .before .before .before .before .before .loop .inv) _ _ _ (e .0) (e .2) (c .before .post-by-value .ensures .account)
-
-enum-told : tie.Need-enum-told Inv-loop μ-loop
-enum-told c = search needs
 
 returns : tie.Need-returns Inv-loop μ-loop
 returns c = stops _ _ _ _ _ (c .before .before .before .loop .inv) (rw (c .enum-told .given .1) at (c .before .before .read-event .ensures))
@@ -53,11 +35,11 @@ post-events-spec =
     (tie.spec
     Inv-loop
     μ-loop
-    loop-holds
-    read-event-requires
-    enum-known-read
-    post-by-value-requires
-    loop-less
+    (λ c. begins _ _ _ (c .before .pre))
+    (λ c κs. search needs)
+    (λ c. search needs)
+    (λ c κs. search needs)
+    (λ c. let e = read-as (c .before .before .before) in omega (arith, e .1, e .2))
     loop-again
-    enum-told
+    (λ c. search needs)
     returns)

@@ -7,26 +7,8 @@ use borrow.Author.Needs.{needs}
 use Rattle.statement.proofs.put_account.Statement.{statement}
 use Rattle.statement.proofs.put_account.Tie as tie
 
-open-requires : tie.Need-open-requires
-open-requires c κs = search needs
-
-put-refusal-requires : tie.Need-put-refusal-requires
-put-refusal-requires c κs = search needs
-
-same-length : tie.Need-same-length
-same-length c = search needs
-
 returns : tie.Need-returns
 returns c = let a = c .before .before .before .before .before .before .before .before .args in no-account _ _ (c .before .before .before .before .before .open .ensures) (drop (a .start) (now (a .text))) (c .before .before .before .before .if1 .taken) (c .before .before .put-refusal .ensures)
-
-post-events-requires : tie.Need-post-events-requires
-post-events-requires c κs = search needs
-
-put-months-requires : tie.Need-put-months-requires
-put-months-requires c κs = search needs
-
-same-length-2 : tie.Need-same-length-2
-same-length-2 c = search needs
 
 returns-2 : tie.Need-returns-2
 returns-2 c = let a = c .before .before .before .before .before .before .before .before .before .before .args in opened _ _ (c .before .before .before .before .before .before .before .open .ensures) (now (a .text)) (a .start) _ (c .before .before .before .before .before .before .if1 .left) (c .before .before .before .post-events .ensures) (c .before .before .put-months .ensures)
@@ -35,11 +17,11 @@ pub put-account-spec : {M : Type 1} → statement M
 put-account-spec =
     tie.close
     (tie.spec
-    open-requires
-    put-refusal-requires
-    same-length
+    (λ c κs. search needs)
+    (λ c κs. search needs)
+    (λ c. search needs)
     returns
-    post-events-requires
-    put-months-requires
-    same-length-2
+    (λ c κs. search needs)
+    (λ c κs. search needs)
+    (λ c. search needs)
     returns-2)

@@ -18,29 +18,14 @@ Inv-loop out₀ a m₀ place₀ out m place = (m ≤ 15) × (place ≤ 510 * m) 
 abbrev μ-loop : tie.MeasureT-loop
 μ-loop out₀ a m₀ place₀ out m place = 15 - m
 
-loop-holds : tie.Need-loop-holds Inv-loop μ-loop
-loop-holds c = (search needs, search needs, none _ _)
-
-summary-requires : tie.Need-summary-requires Inv-loop μ-loop
-summary-requires c κs = search needs
-
 put-line-requires : tie.Need-put-line-requires Inv-loop μ-loop
 put-line-requires c κs = let l = c .before .before .before .loop in omega (arith, kept (l .inv .2), c .before .before .before .before .before .pre)
-
-add-m : tie.Need-add-m Inv-loop μ-loop
-add-m c = search needs
-
-loop-less : tie.Need-loop-less Inv-loop μ-loop
-loop-less c = search needs
 
 loop-again : tie.Need-loop-again Inv-loop μ-loop
 loop-again c =
     let l = c .before .before .before .before .before .before .loop in
     let line = c .before .before .put-line .ensures in
     (search needs, omega (arith, l .inv .1, line .1), one-more _ (l .m) _ (l .inv .2) (c .before .before .before .before .summary .ensures .account) (line .0))
-
-same-length : tie.Need-same-length Inv-loop μ-loop
-same-length c = kept (c .before .loop .inv .2)
 
 returns : tie.Need-returns Inv-loop μ-loop
 returns c =
@@ -54,11 +39,11 @@ put-months-spec =
     (tie.spec
     Inv-loop
     μ-loop
-    loop-holds
-    summary-requires
+    (λ c. (search needs, search needs, none _ _))
+    (λ c κs. search needs)
     put-line-requires
-    add-m
-    loop-less
+    (λ c. search needs)
+    (λ c. search needs)
     loop-again
-    same-length
+    (λ c. kept (c .before .loop .inv .2))
     returns)

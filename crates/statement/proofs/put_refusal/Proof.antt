@@ -1,43 +1,29 @@
 -- `statement::put_refusal` meets its contract.
 -- Assumes nothing.
 use native.Mathlib.Omega.{arith}
+use Rattle.scanner.specs.Scanner.{bytes}
 use Rattle.printing.specs.Printing.{decimal}
 use Rattle.printing.proofs.Digits.{length-byte}
 use Rattle.printing.proofs.Placed.{word-last, field-then}
-use Rattle.statement.proofs.Lines.{before-code, terms-line}
+use Rattle.statement.proofs.Lines.{terms-line}
 use borrow.Author.Needs.{needs}
 use Rattle.statement.proofs.put_refusal.Statement.{statement}
 use Rattle.statement.proofs.put_refusal.Tie as tie
-
-slice-aggregate-put-field : tie.Need-slice-aggregate-put-field
-slice-aggregate-put-field c = search needs
-
-put-field-requires : tie.Need-put-field-requires
-put-field-requires c κs = search needs
-
-slice-aggregate-put-bytes : tie.Need-slice-aggregate-put-bytes
-slice-aggregate-put-bytes c = search needs
-
-put-bytes-requires : tie.Need-put-bytes-requires
-put-bytes-requires c κs = search needs
-
-same-length : tie.Need-same-length
-same-length c = search needs
 
 returns : tie.Need-returns
 returns c =
     let code = c .before .before .before .before .before .before .before in
     let s = code .before .before .before .before in
     let n = s .args .code in
-    rw (terms-line n) at (field-then before-code (decimal n) 3 (length-byte n (s .fits .code .fits)) (code .put-field .ensures) 26 (omega (arith, s .pre)) (word-last (c .before .before .put-bytes .ensures)) .0)
+    rw (terms-line n) at (field-then (bytes "n=0 code=") (decimal n) 3 (length-byte n (s .fits .code .fits)) (code .put-field .ensures) 26 (omega (arith, s .pre)) (word-last (c .before .before .put-bytes .ensures)) .0)
 
 pub put-refusal-spec : {M : Type 1} → statement M
 put-refusal-spec =
     tie.close
     (tie.spec
-    slice-aggregate-put-field
-    put-field-requires
-    slice-aggregate-put-bytes
-    put-bytes-requires
-    same-length
+    (λ c. search needs)
+    (λ c κs. search needs)
+    (λ c. search needs)
+    (λ c κs. search needs)
+    (λ c. search needs)
     returns)

@@ -1,55 +1,30 @@
 -- `text::read_event` meets its contract. Assumes nothing.
 use mathlib.Core.Path.{subst}
 use borrow.Author.Needs.{needs}
-use Rattle.scanner.specs.Scanner.{NumberAt}
+use Rattle.scanner.specs.Scanner.{bytes, NumberAt}
 use Rattle.scanner.specs.declared.NumberRead.the-variants.{Got}
-use Rattle.text.specs.Text.{kDay}
 use Rattle.text.specs.Places.{SortAt}
 use Rattle.text.proofs.Whole.{no-day, no-sort, whole-event}
 use Rattle.text.proofs.read_event.Statement.{statement}
 use Rattle.text.proofs.read_event.Tie as tie
 
 -- the day, and the sort
-day : (c : tie.After-day) → let a = c .before .before .before .before .before .args in NumberAt kDay (a .text .now) (a .at) (Got (c .day .given .0 .0) (c .day .given .0 .1 .0))
-day c = subst (NumberAt kDay _ _) (c .day .given .1) (c .before .before .read-day .ensures)
+day : (c : tie.After-day) → let a = c .before .before .before .before .before .args in NumberAt (bytes "day") (a .text .now) (a .at) (Got (c .day .given .0 .0) (c .day .given .0 .1 .0))
+day c = subst (NumberAt (bytes "day") _ _) (c .day .given .1) (c .before .before .read-number .ensures)
 
 sort : (c : tie.After-sort) → let d = c .before .before .before .before in SortAt (d .before .before .before .before .before .args .text .now) (d .day .given .0 .1 .0) (Got (c .sort .given .0 .0) (c .sort .given .0 .1 .0))
 sort c = subst (SortAt _ _) (c .sort .given .1) (c .before .before .read-sort .ensures)
 
-slice-aggregate-read-day : tie.Need-slice-aggregate-read-day
-slice-aggregate-read-day c = search needs
-
-read-day-requires : tie.Need-read-day-requires
-read-day-requires c κs = search needs
-
-enum-known-day : tie.Need-enum-known-day
-enum-known-day c = search needs
-
-enum-told : tie.Need-enum-told
-enum-told c = search needs
-
 returns : tie.Need-returns
 returns c =
     let a = c .before .before .before .before .before .args in
-    no-day (a .text .now) (a .at) (subst (NumberAt kDay _ _) (c .enum-told .given .1) (c .before .before .read-day .ensures))
-
-read-sort-requires : tie.Need-read-sort-requires
-read-sort-requires c κs = search needs
-
-enum-known-sort : tie.Need-enum-known-sort
-enum-known-sort c = search needs
-
-enum-told-2 : tie.Need-enum-told-2
-enum-told-2 c = search needs
+    no-day (a .text .now) (a .at) (subst (NumberAt (bytes "day") _ _) (c .enum-told .given .1) (c .before .before .read-number .ensures))
 
 returns-2 : tie.Need-returns-2
 returns-2 c =
     let d = c .before .before .before .before in
     let a = d .before .before .before .before .before .args in
     no-sort (a .text .now) (a .at) _ _ (day d) (subst (SortAt _ _) (c .enum-told2 .given .1) (c .before .before .read-sort .ensures))
-
-read-fields-requires : tie.Need-read-fields-requires
-read-fields-requires c κs = sort (c .before) .1
 
 returns-3 : tie.Need-returns-3
 returns-3 c =
@@ -62,14 +37,14 @@ pub read-event-spec : {M : Type 1} → statement M
 read-event-spec =
     tie.close
     (tie.spec
-    slice-aggregate-read-day
-    read-day-requires
-    enum-known-day
-    enum-told
+    (λ c. search needs)
+    (λ c κs. search needs)
+    (λ c. search needs)
+    (λ c. search needs)
     returns
-    read-sort-requires
-    enum-known-sort
-    enum-told-2
+    (λ c κs. search needs)
+    (λ c. search needs)
+    (λ c. search needs)
     returns-2
-    read-fields-requires
+    (λ c κs. sort (c .before) .1)
     returns-3)

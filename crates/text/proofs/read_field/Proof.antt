@@ -2,35 +2,22 @@
 use mathlib.Core.Path.{subst}
 use borrow.Author.Needs.{needs}
 use Rattle.scanner.specs.Scanner.{NumberAt}
-use Rattle.text.specs.Places.{fieldIs}
 use Rattle.text.proofs.Fields.{field-none, field-is}
 use Rattle.text.proofs.read_field.Statement.{statement}
 use Rattle.text.proofs.read_field.Tie as tie
 
-read-under-requires : tie.Need-read-under-requires
-read-under-requires c κs = search needs
-
-enum-known-value : tie.Need-enum-known-value
-enum-known-value c = search needs
-
-enum-told : tie.Need-enum-told
-enum-told c = search needs
-
 returns : tie.Need-returns
 returns c =
-    let a = c .before .before .before .before .args in
-    field-none (fieldIs (a .field)) (a .event) (a .text .now) (a .at) (subst (NumberAt _ _ _) (c .enum-told .given .1) (c .before .before .read-under .ensures))
-
-store-requires : tie.Need-store-requires
-store-requires c κs = search needs
+    let a = c .before .before .before .before .before .args in
+    field-none (a .key .now) (a .field) (a .event) (a .text .now) (a .at) (subst (NumberAt _ _ _) (c .enum-told .given .1) (c .before .before .read-number .ensures))
 
 returns-2 : tie.Need-returns-2
 returns-2 c =
     let v = c .before .before in
-    let a = v .before .before .before .before .args in
-    field-is (fieldIs (a .field)) (a .event) (a .text .now) (a .at) _ _ (subst (NumberAt _ _ _) (v .value .given .1) (v .before .before .read-under .ensures)) (c .store .result) (c .store .ensures)
+    let a = v .before .before .before .before .before .args in
+    field-is (a .key .now) (a .field) (a .event) (a .text .now) (a .at) _ _ (subst (NumberAt _ _ _) (v .value .given .1) (v .before .before .read-number .ensures)) (c .store .result) (c .store .ensures)
 
 pub read-field-spec : {M : Type 1} → statement M
 read-field-spec =
     tie.close
-    (tie.spec read-under-requires enum-known-value enum-told returns store-requires returns-2)
+    (tie.spec (λ c κs. search needs) (λ c. search needs) (λ c. search needs) returns (λ c κs. search needs) returns-2)

@@ -1,25 +1,25 @@
 -- `text::read_fields` meets its contract: each arm by the fields of its sort. Assumes nothing.
 use Prim.Native.Nat.{_≤_, _<_}
-use mathlib.Core.Path.{_≡_, sym, subst}
+use mathlib.Core.Path.{_≡_, sym, ap, subst}
 use mathlib.Core.List.{List, []}
 use mathlib.Core.Logic.{inl, inr}
 use native.Mathlib.Omega.{arith}
 use borrow.Author.Needs.{needs}
-use Rattle.text.specs.Text.{Field, fieldsOf}
+use Rattle.text.specs.Text.{FieldLine, sorts, fieldsIn}
 use Rattle.text.specs.Places.{FieldsAt}
 use Rattle.text.specs.declared.EventRead.{EventRead}
 use Rattle.text.specs.declared.EventRead.the-variants.{Got}
-use Rattle.text.proofs.Fields.{of-amount, of-number, of-charge, of-reading, of-mark, of-plan, of-none, nothing}
+use Rattle.text.proofs.Fields.{next-line, of-reading, of-none, nothing}
 use Rattle.text.proofs.read_fields.Statement.{statement}
 use Rattle.text.proofs.read_fields.Tie as tie
 
 -- an arm's answer, where its fields are the sort's
-by : (c : tie.Start) (fs : List Field) (r : EventRead) → fieldsOf (c .args .event .sort) ≡ fs → FieldsAt fs (c .args .event) (c .args .text .now) (c .args .at) r
-    → FieldsAt (fieldsOf (c .args .event .sort)) (c .args .event) (c .args .text .now) (c .args .at) r
-by c fs r e h = subst (λ (l : List Field). FieldsAt l (c .args .event) (c .args .text .now) (c .args .at) r) (sym e) h
+by : (c : tie.Start) (fs : List FieldLine) (r : EventRead) → fieldsIn sorts (c .args .event .sort) ≡ fs → FieldsAt fs (c .args .event) (c .args .text .now) (c .args .at) r
+    → FieldsAt (fieldsIn sorts (c .args .event .sort)) (c .args .event) (c .args .text .now) (c .args .at) r
+by c fs r e h = subst (λ (l : List FieldLine). FieldsAt l (c .args .event) (c .args .text .now) (c .args .at) r) (sym e) h
 
 -- the sorts with no field
-none : (c : tie.At-match-rest) → (5 ≤ c .before .before .args .event .sort → c .before .before .args .event .sort < 7 → ⊥) → fieldsOf (c .before .before .args .event .sort) ≡ []
+none : (c : tie.At-match-rest) → (5 ≤ c .before .before .args .event .sort → c .before .before .args .event .sort < 7 → ⊥) → fieldsIn sorts (c .before .before .args .event .sort) ≡ []
 none c out =
     let r = c .match .rest in
     of-none (c .before .before .args .event .sort)
@@ -43,41 +43,31 @@ low c h =
     let four : n ≡ 4 → ⊥ = r .0 .0 .1 in
     omega arith
 
-read-field-requires : tie.Need-read-field-requires
-read-field-requires c κs = search needs
-
-read-field-requires-2 : tie.Need-read-field-requires-2
-read-field-requires-2 c κs = search needs
-
-read-two-requires : tie.Need-read-two-requires
-read-two-requires c κs = search needs
-
-read-mark-requires : tie.Need-read-mark-requires
-read-mark-requires c κs = search needs
-
-read-field-requires-3 : tie.Need-read-field-requires-3
-read-field-requires-3 c κs = search needs
-
-read-two-requires-2 : tie.Need-read-two-requires-2
-read-two-requires-2 c κs = search needs
-
 returns : tie.Need-returns
-returns c = by (c .before .before .before) _ (c .read-field .result) (of-amount _ (c .before .match .keys1)) (c .read-field .ensures)
+returns c = by (c .before .before .before .before) _ (c .read-field .result) (elim (c .before .before .match .keys1) [ inl e ↦ ap (fieldsIn sorts) e | inr e ↦ ap (fieldsIn sorts) e ]) (c .read-field .ensures)
 
 returns-2 : tie.Need-returns-2
-returns-2 c = by (c .before .before .before) _ (c .read-field2 .result) (of-number _ (c .before .match .keys2)) (c .read-field2 .ensures)
+returns-2 c = by (c .before .before .before .before) _ (c .read-field2 .result) (ap (fieldsIn sorts) (c .before .before .match .keys2)) (c .read-field2 .ensures)
 
 returns-3 : tie.Need-returns-3
-returns-3 c = by (c .before .before .before) _ (c .read-two .result) (of-charge _ (c .before .match .keys3)) (c .read-two .ensures)
+returns-3 c =
+    by (c .before .before .before .before .before .before) _ (c .read-next .result) (ap (fieldsIn sorts) (c .before .before .before .before .match .keys3))
+    (next-line _ _ _ _ _ (c .before .before .read-field3 .result) _ (c .before .before .read-field3 .ensures) (c .read-next .ensures))
 
 returns-4 : tie.Need-returns-4
-returns-4 c = by (c .before .before .before) _ (c .read-mark .result) (of-mark _ (c .before .match .keys4)) (c .read-mark .ensures)
+returns-4 c =
+    let kind = c .before .before .before .before in
+    let from = c .before .before in
+    by (c .before .before .before .before .before .before .before .before) _ (c .read-next3 .result) (ap (fieldsIn sorts) (c .before .before .before .before .before .before .match .keys4))
+    (next-line _ _ _ _ _ (from .read-next2 .result) _ (next-line _ _ _ _ _ (kind .read-field4 .result) _ (kind .read-field4 .ensures) (from .read-next2 .ensures)) (c .read-next3 .ensures))
 
 returns-5 : tie.Need-returns-5
-returns-5 c = by (c .before .before .before) _ (c .read-field3 .result) (of-plan _ (c .before .match .keys5)) (c .read-field3 .ensures)
+returns-5 c = by (c .before .before .before .before) _ (c .read-field5 .result) (ap (fieldsIn sorts) (c .before .before .match .keys5)) (c .read-field5 .ensures)
 
 returns-6 : tie.Need-returns-6
-returns-6 c = by (c .before .before .before .before .before) _ (c .read-two2 .result) (of-reading _ (low (c .before .before .before) (c .before .before .if1 .left)) (c .before .if2 .taken)) (c .read-two2 .ensures)
+returns-6 c =
+    by (c .before .before .before .before .before .before .before .before) _ (c .read-next4 .result) (of-reading _ (low (c .before .before .before .before .before .before) (c .before .before .before .before .before .if1 .left)) (c .before .before .before .before .if2 .taken))
+    (next-line _ _ _ _ _ (c .before .before .read-field6 .result) _ (c .before .before .read-field6 .ensures) (c .read-next4 .ensures))
 
 returns-7 : tie.Need-returns-7
 returns-7 c =
@@ -93,12 +83,26 @@ pub read-fields-spec : {M : Type 1} → statement M
 read-fields-spec =
     tie.close
     (tie.spec
-    read-field-requires
-    read-field-requires-2
-    read-two-requires
-    read-mark-requires
-    read-field-requires-3
-    read-two-requires-2
+    (λ c. search needs)
+    (λ c κs. search needs)
+    (λ c. search needs)
+    (λ c κs. search needs)
+    (λ c. search needs)
+    (λ c κs. search needs)
+    (λ c. search needs)
+    (λ c κs. search needs)
+    (λ c. search needs)
+    (λ c κs. search needs)
+    (λ c. search needs)
+    (λ c κs. search needs)
+    (λ c. search needs)
+    (λ c κs. search needs)
+    (λ c. search needs)
+    (λ c κs. search needs)
+    (λ c. search needs)
+    (λ c κs. search needs)
+    (λ c. search needs)
+    (λ c κs. search needs)
     returns
     returns-2
     returns-3

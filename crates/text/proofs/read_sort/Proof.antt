@@ -2,43 +2,15 @@
 use mathlib.Core.Path.{subst}
 use native.Mathlib.Omega.{arith}
 use borrow.Author.Needs.{needs}
-use Rattle.scanner.specs.Scanner.{ValueAt}
+use Rattle.scanner.specs.Scanner.{bytes, ValueAt}
 use Rattle.scanner.specs.declared.ValueRead.the-variants.{Got}
-use Rattle.text.specs.Text.{kDo}
 use Rattle.text.proofs.Sorts.{no-do, no-word, sort-is}
 use Rattle.text.proofs.read_sort.Statement.{statement}
 use Rattle.text.proofs.read_sort.Tie as tie
 
 -- the value
-valued : (c : tie.After-from) → let a = c .before .before .before .before .before .args in ValueAt kDo (a .text .now) (a .at) (Got (c .from .given .0 .0) (c .from .given .0 .1 .0) (c .from .given .0 .1 .1 .0))
+valued : (c : tie.After-from) → let a = c .before .before .before .before .before .args in ValueAt (bytes "do") (a .text .now) (a .at) (Got (c .from .given .0 .0) (c .from .given .0 .1 .0) (c .from .given .0 .1 .1 .0))
 valued c = subst (ValueAt _ _ _) (c .from .given .1) (c .before .before .read-value .ensures)
-
-slice-aggregate-read-value : tie.Need-slice-aggregate-read-value
-slice-aggregate-read-value c = search needs
-
-read-value-requires : tie.Need-read-value-requires
-read-value-requires c κs = search needs
-
-enum-known-from : tie.Need-enum-known-from
-enum-known-from c = search needs
-
-enum-told : tie.Need-enum-told
-enum-told c = search needs
-
-returns : tie.Need-returns
-returns c = no-do _ (subst (ValueAt _ _ _) (c .enum-told .given .1) (c .before .before .read-value .ensures))
-
-sub-sort-of : tie.Need-sub-sort-of
-sub-sort-of c = omega (arith, valued (c .before))
-
-part-sort-of-start : tie.Need-part-sort-of-start
-part-sort-of-start c = omega (arith, valued (c .before))
-
-part-sort-of-end : tie.Need-part-sort-of-end
-part-sort-of-end c = omega (arith, valued (c .before))
-
-sort-of-requires : tie.Need-sort-of-requires
-sort-of-requires c κs = search needs
 
 returns-2 : tie.Need-returns-2
 returns-2 c = no-word _ _ _ (valued (c .before .before .before .before) .0) _ (c .before .sort-of .ensures) (c .if1 .taken)
@@ -52,14 +24,14 @@ pub read-sort-spec : {M : Type 1} → statement M
 read-sort-spec =
     tie.close
     (tie.spec
-    slice-aggregate-read-value
-    read-value-requires
-    enum-known-from
-    enum-told
-    returns
-    sub-sort-of
-    part-sort-of-start
-    part-sort-of-end
-    sort-of-requires
+    (λ c. search needs)
+    (λ c κs. search needs)
+    (λ c. search needs)
+    (λ c. search needs)
+    (λ c. no-do _ (subst (ValueAt _ _ _) (c .enum-told .given .1) (c .before .before .read-value .ensures)))
+    (λ c. omega (arith, valued (c .before)))
+    (λ c. omega (arith, valued (c .before)))
+    (λ c. omega (arith, valued (c .before)))
+    (λ c κs. search needs)
     returns-2
     returns-3)

@@ -7,13 +7,10 @@ use borrow.Author.Needs.{needs}
 use Rattle.transcript.proofs.malformed.Statement.{statement}
 use Rattle.transcript.proofs.malformed.Tie as tie
 
-open-requires : tie.Need-open-requires
-open-requires c κs = search needs
-
 returns : tie.Need-returns
 returns c =
     let start : Opened → Progress = λ o. record { account = o .account; at = 0; count = 0; code = 15; length = 0; done = false } in
     ap start (c .before .«open» .ensures)
 
 pub malformed-spec : {M : Type 1} → statement M
-malformed-spec = tie.close (tie.spec open-requires returns)
+malformed-spec = tie.close (tie.spec (λ c κs. search needs) returns)

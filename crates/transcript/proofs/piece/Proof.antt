@@ -4,29 +4,8 @@ use borrow.Author.Needs.{needs}
 use Rattle.transcript.proofs.piece.Statement.{statement}
 use Rattle.transcript.proofs.piece.Tie as tie
 
-returns : tie.Need-returns
-returns c = too-short _ _ _ (c .if1 .taken)
-
-returns-2 : tie.Need-returns-2
-returns-2 c = ended _ _ _ (c .before .if1 .left) (c .if2 .taken)
-
-returns-3 : tie.Need-returns-3
-returns-3 c = too-many _ _ _ (c .before .before .before .if1 .left) (c .before .before .if2 .left) (c .if3 .taken)
-
 put-events-requires : tie.Need-put-events-requires
 put-events-requires c κs = (c .before .before .before .before .before .if2 .left, c .before .if4 .taken, c .before .before .before .if3 .left, c .before .before .before .before .before .before .if1 .left)
-
-same-length : tie.Need-same-length
-same-length c = search needs
-
-returns-4 : tie.Need-returns-4
-returns-4 c = c .before .before .put-events .ensures
-
-put-event-requires : tie.Need-put-event-requires
-put-event-requires c κs = search needs
-
-same-length-2 : tie.Need-same-length-2
-same-length-2 c = search needs
 
 returns-5 : tie.Need-returns-5
 returns-5 c = refused _ _ (c .before .before .before .before .before .before .before .before .if2 .left) (c .before .before .before .before .before .before .if3 .left) (c .before .before .before .before .if4 .left) (c .before .before .before .before .before .before .before .before .before .if1 .left) (c .before .before .put-event .ensures .0)
@@ -35,12 +14,12 @@ pub piece-spec : {M : Type 1} → statement M
 piece-spec =
     tie.close
     (tie.spec
-    returns
-    returns-2
-    returns-3
+    (λ c. too-short _ _ _ (c .if1 .taken))
+    (λ c. ended _ _ _ (c .before .if1 .left) (c .if2 .taken))
+    (λ c. too-many _ _ _ (c .before .before .before .if1 .left) (c .before .before .if2 .left) (c .if3 .taken))
     put-events-requires
-    same-length
-    returns-4
-    put-event-requires
-    same-length-2
+    (λ c. search needs)
+    (λ c. c .before .before .put-events .ensures)
+    (λ c κs. search needs)
+    (λ c. search needs)
     returns-5)

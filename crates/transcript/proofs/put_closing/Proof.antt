@@ -1,64 +1,38 @@
 -- `transcript::put_closing` meets its contract. Assumes nothing.
 use mathlib.Core.Path.{sym}
 use mathlib.Core.List.{_++_}
+use Rattle.scanner.specs.Scanner.{bytes}
 use Rattle.printing.specs.Printing.{decimal, signed, Puts}
 use Rattle.printing.proofs.Digits.{length-decimal, length-signed}
 use Rattle.printing.proofs.Signs.{back}
 use Rattle.printing.proofs.Placed.{word-last, field-then}
-use Rattle.transcript.specs.Transcript.{lastLine, wSettled, wEstimates}
+use Rattle.transcript.specs.Transcript.{lastLine}
 use borrow.Author.Needs.{needs}
 use Rattle.transcript.proofs.put_closing.Statement.{statement}
 use Rattle.transcript.proofs.put_closing.Tie as tie
-
-settled-requires : tie.Need-settled-requires
-settled-requires c κs = search needs
-
-estimates-requires : tie.Need-estimates-requires
-estimates-requires c κs = search needs
-
-slice-aggregate-put-sum : tie.Need-slice-aggregate-put-sum
-slice-aggregate-put-sum c = search needs
-
-put-sum-requires : tie.Need-put-sum-requires
-put-sum-requires c κs = search needs
-
-slice-aggregate-put-field : tie.Need-slice-aggregate-put-field
-slice-aggregate-put-field c = search needs
-
-put-field-requires : tie.Need-put-field-requires
-put-field-requires c κs = search needs
-
-slice-aggregate-put-bytes : tie.Need-slice-aggregate-put-bytes
-slice-aggregate-put-bytes c = search needs
-
-put-bytes-requires : tie.Need-put-bytes-requires
-put-bytes-requires c κs = search needs
-
-same-length : tie.Need-same-length
-same-length c = search needs
 
 returns : tie.Need-returns
 unfolding lastLine
 returns c =
     let b = c .before .before .before .before .before .before .before .before .before .before .before .before .before .before .before .before .settled in
     let p = c .before .before .before .before .before .before .before .before .before .before .before .before .before .before .before .estimates in
-    let sum : Puts _ _ (wSettled ++ signed (b .result)) _ _ = rw (back (b .result) (record { sfits = b .ok })) at (c .before .before .before .before .before .before .before .before .before .before .before .before .put-sum .ensures) in
+    let sum : Puts _ _ ((bytes "settled=") ++ signed (b .result)) _ _ = rw (back (b .result) (record { sfits = b .ok })) at (c .before .before .before .before .before .before .before .before .before .before .before .before .put-sum .ensures) in
     rw (sym (b .ensures .totals), sym (p .ensures .totals))
-    (field-then wSettled (signed (b .result)) 20 (length-signed (b .result) (b .ok)) sum 32 (c .before .before .before .before .before .before .before .before .before .before .before .before .before .before .before .before .before .before .pre) (λ h1.
-    field-then wEstimates (decimal (p .result)) 20 (length-decimal (p .result) (p .ok)) (c .before .before .before .before .before .before .before .put-field .ensures) 1 h1 (λ h2.
+    (field-then (bytes "settled=") (signed (b .result)) 20 (length-signed (b .result) (b .ok)) sum 32 (c .before .before .before .before .before .before .before .before .before .before .before .before .before .before .before .before .before .before .pre) (λ h1.
+    field-then (bytes " estimates=") (decimal (p .result)) 20 (length-decimal (p .result) (p .ok)) (c .before .before .before .before .before .before .before .put-field .ensures) 1 h1 (λ h2.
     word-last (c .before .before .put-bytes .ensures) h2)) .0)
 
 pub put-closing-spec : {M : Type 1} → statement M
 put-closing-spec =
     tie.close
     (tie.spec
-    settled-requires
-    estimates-requires
-    slice-aggregate-put-sum
-    put-sum-requires
-    slice-aggregate-put-field
-    put-field-requires
-    slice-aggregate-put-bytes
-    put-bytes-requires
-    same-length
+    (λ c κs. search needs)
+    (λ c κs. search needs)
+    (λ c. search needs)
+    (λ c κs. search needs)
+    (λ c. search needs)
+    (λ c κs. search needs)
+    (λ c. search needs)
+    (λ c κs. search needs)
+    (λ c. search needs)
     returns)

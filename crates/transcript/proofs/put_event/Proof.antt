@@ -1,93 +1,49 @@
 -- `transcript::put_event` meets its contract. Assumes nothing.
 use mathlib.Core.Path.{sym}
 use mathlib.Core.List.{_++_}
+use Rattle.scanner.specs.Scanner.{bytes}
 use Rattle.printing.specs.Printing.{decimal, signed, Puts}
 use Rattle.printing.proofs.Digits.{length-decimal, length-byte, length-signed}
 use Rattle.printing.proofs.Signs.{back}
 use Rattle.printing.proofs.Placed.{word-last, field-then}
-use Rattle.transcript.specs.Transcript.{line, wN, wCode, wValue, wBalance, wPlan}
+use Rattle.transcript.specs.Transcript.{eventLine}
 use borrow.Author.Needs.{needs}
 use Rattle.transcript.proofs.put_event.Statement.{statement}
 use Rattle.transcript.proofs.put_event.Tie as tie
 
-balance-requires : tie.Need-balance-requires
-balance-requires c κs = search needs
-
-plan-requires : tie.Need-plan-requires
-plan-requires c κs = search needs
-
-slice-aggregate-put-field : tie.Need-slice-aggregate-put-field
-slice-aggregate-put-field c = search needs
-
-put-field-requires : tie.Need-put-field-requires
-put-field-requires c κs = search needs
-
-slice-aggregate-put-field-2 : tie.Need-slice-aggregate-put-field-2
-slice-aggregate-put-field-2 c = search needs
-
-put-field-requires-2 : tie.Need-put-field-requires-2
-put-field-requires-2 c κs = search needs
-
-slice-aggregate-put-field-3 : tie.Need-slice-aggregate-put-field-3
-slice-aggregate-put-field-3 c = search needs
-
-put-field-requires-3 : tie.Need-put-field-requires-3
-put-field-requires-3 c κs = search needs
-
-slice-aggregate-put-sum : tie.Need-slice-aggregate-put-sum
-slice-aggregate-put-sum c = search needs
-
-put-sum-requires : tie.Need-put-sum-requires
-put-sum-requires c κs = search needs
-
-slice-aggregate-put-field-4 : tie.Need-slice-aggregate-put-field-4
-slice-aggregate-put-field-4 c = search needs
-
-put-field-requires-4 : tie.Need-put-field-requires-4
-put-field-requires-4 c κs = search needs
-
-slice-aggregate-put-bytes : tie.Need-slice-aggregate-put-bytes
-slice-aggregate-put-bytes c = search needs
-
-put-bytes-requires : tie.Need-put-bytes-requires
-put-bytes-requires c κs = search needs
-
-same-length : tie.Need-same-length
-same-length c = search needs
-
 returns : tie.Need-returns
-unfolding line
+unfolding eventLine
 returns c =
     let a = c .before .before .before .before .before .before .before .before .before .before .before .before .before .before .before .before .before .before .before .before .before .before .before .before .before .before .before .before .before .before .before .before .before .args in
     let f = c .before .before .before .before .before .before .before .before .before .before .before .before .before .before .before .before .before .before .before .before .before .before .before .before .before .before .before .before .before .before .before .before .before .fits in
     let b = c .before .before .before .before .before .before .before .before .before .before .before .before .before .before .before .before .before .before .before .before .before .before .before .before .before .before .before .before .before .before .before .balance in
     let p = c .before .before .before .before .before .before .before .before .before .before .before .before .before .before .before .before .before .before .before .before .before .before .before .before .before .before .before .before .before .before .plan in
-    let sum : Puts _ _ (wBalance ++ signed (b .result)) _ _ = rw (back (b .result) (record { sfits = b .ok })) at (c .before .before .before .before .before .before .before .before .before .before .before .before .put-sum .ensures) in
+    let sum : Puts _ _ ((bytes " balance=") ++ signed (b .result)) _ _ = rw (back (b .result) (record { sfits = b .ok })) at (c .before .before .before .before .before .before .before .before .before .before .before .before .put-sum .ensures) in
     rw (sym (b .ensures .totals), sym (p .ensures .totals))
-    (field-then wN (decimal (a .n)) 20 (length-decimal (a .n) (f .n .fits)) (c .before .before .before .before .before .before .before .before .before .before .before .before .before .before .before .before .before .before .before .before .before .before .before .before .before .before .before .put-field .ensures) 92 (c .before .before .before .before .before .before .before .before .before .before .before .before .before .before .before .before .before .before .before .before .before .before .before .before .before .before .before .before .before .before .before .before .before .pre) (λ h1.
-    field-then wCode (decimal (a .code)) 3 (length-byte (a .code) (f .code .fits)) (c .before .before .before .before .before .before .before .before .before .before .before .before .before .before .before .before .before .before .before .before .before .before .put-field2 .ensures) 83 h1 (λ h2.
-    field-then wValue (decimal (a .value)) 20 (length-decimal (a .value) (f .value .fits)) (c .before .before .before .before .before .before .before .before .before .before .before .before .before .before .before .before .before .put-field3 .ensures) 56 h2 (λ h3.
-    field-then wBalance (signed (b .result)) 20 (length-signed (b .result) (b .ok)) sum 27 h3 (λ h4.
-    field-then wPlan (decimal (p .result)) 20 (length-decimal (p .result) (p .ok)) (c .before .before .before .before .before .before .before .put-field4 .ensures) 1 h4 (λ h5.
+    (field-then (bytes "n=") (decimal (a .n)) 20 (length-decimal (a .n) (f .n .fits)) (c .before .before .before .before .before .before .before .before .before .before .before .before .before .before .before .before .before .before .before .before .before .before .before .before .before .before .before .put-field .ensures) 92 (c .before .before .before .before .before .before .before .before .before .before .before .before .before .before .before .before .before .before .before .before .before .before .before .before .before .before .before .before .before .before .before .before .before .pre) (λ h1.
+    field-then (bytes " code=") (decimal (a .code)) 3 (length-byte (a .code) (f .code .fits)) (c .before .before .before .before .before .before .before .before .before .before .before .before .before .before .before .before .before .before .before .before .before .before .put-field2 .ensures) 83 h1 (λ h2.
+    field-then (bytes " value=") (decimal (a .value)) 20 (length-decimal (a .value) (f .value .fits)) (c .before .before .before .before .before .before .before .before .before .before .before .before .before .before .before .before .before .put-field3 .ensures) 56 h2 (λ h3.
+    field-then (bytes " balance=") (signed (b .result)) 20 (length-signed (b .result) (b .ok)) sum 27 h3 (λ h4.
+    field-then (bytes " plan=") (decimal (p .result)) 20 (length-decimal (p .result) (p .ok)) (c .before .before .before .before .before .before .before .put-field4 .ensures) 1 h4 (λ h5.
     word-last (c .before .before .put-bytes .ensures) h5))))))
 
 pub put-event-spec : {M : Type 1} → statement M
 put-event-spec =
     tie.close
     (tie.spec
-    balance-requires
-    plan-requires
-    slice-aggregate-put-field
-    put-field-requires
-    slice-aggregate-put-field-2
-    put-field-requires-2
-    slice-aggregate-put-field-3
-    put-field-requires-3
-    slice-aggregate-put-sum
-    put-sum-requires
-    slice-aggregate-put-field-4
-    put-field-requires-4
-    slice-aggregate-put-bytes
-    put-bytes-requires
-    same-length
+    (λ c κs. search needs)
+    (λ c κs. search needs)
+    (λ c. search needs)
+    (λ c κs. search needs)
+    (λ c. search needs)
+    (λ c κs. search needs)
+    (λ c. search needs)
+    (λ c κs. search needs)
+    (λ c. search needs)
+    (λ c κs. search needs)
+    (λ c. search needs)
+    (λ c κs. search needs)
+    (λ c. search needs)
+    (λ c κs. search needs)
+    (λ c. search needs)
     returns)

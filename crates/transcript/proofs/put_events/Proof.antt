@@ -28,77 +28,8 @@ read-as c = rw (c .read .given .1) at (c .before .before .read-event .ensures)
 is-step : (c : tie.After-move-of Inv-loop μ-loop) → let b = c .before .before .before .before .before .before .before .before .before .before .before .before .before .before .before .before .before .loop .b in let e = c .before .before .before .before .before .before .before .before .before .before .before .before .read .given .0 .0 in let m = c .move-of .result in _≡_ {A = Posted} (record { account = written b e m; code = m .code; value = m .value }) (stepOf b e)
 is-step c = rw (c .move-of .ensures .move) (written-always _ _)
 
-loop-holds : tie.Need-loop-holds Inv-loop μ-loop
-loop-holds c = begins _ _ _ _ _ (c .before .before .before .pre .3) (c .before .before .before .pre .2)
-
-sub-if1 : tie.Need-sub-if1 Inv-loop μ-loop
-sub-if1 c = omega (arith, c .before .loop .inv .room)
-
-same-length : tie.Need-same-length Inv-loop μ-loop
-same-length c = sized _ _ _ _ _ _ _ _ _ _ (c .before .before .loop .inv)
-
 returns : tie.Need-returns Inv-loop μ-loop
 returns c = pauses _ _ _ _ _ _ _ _ (c .before .before .loop .inv) (c .before .before .before .before .before .before .pre .0) (c .before .before .before .before .before .before .pre .1) (c .before .before .before .before .before .before .pre .2) (c .before .before .before .before .before .before .pre .3) (c .before .loop-test .taken) (c .if1 .taken)
-
-read-event-requires : tie.Need-read-event-requires Inv-loop μ-loop
-read-event-requires c κs = search needs
-
-enum-known-read : tie.Need-enum-known-read Inv-loop μ-loop
-enum-known-read c = search needs
-
-cast-number : tie.Need-cast-number Inv-loop μ-loop
-cast-number c = search needs
-
-mul-payment : tie.Need-mul-payment Inv-loop μ-loop
-mul-payment c = search needs
-
-element-copy-out-payment : tie.Need-element-copy-out-payment Inv-loop μ-loop
-element-copy-out-payment c = search needs
-
-cast-usage : tie.Need-cast-usage Inv-loop μ-loop
-cast-usage c = search needs
-
-mul-day : tie.Need-mul-day Inv-loop μ-loop
-mul-day c = search needs
-
-element-copy-out-day : tie.Need-element-copy-out-day Inv-loop μ-loop
-element-copy-out-day c = search needs
-
-move-of-requires : tie.Need-move-of-requires Inv-loop μ-loop
-move-of-requires c κs = search needs
-
-cast-paid : tie.Need-cast-paid Inv-loop μ-loop
-cast-paid c = search needs
-
-mul-paid : tie.Need-mul-paid Inv-loop μ-loop
-mul-paid c = search needs
-
-element-set-from-paid : tie.Need-element-set-from-paid Inv-loop μ-loop
-element-set-from-paid c = c .before .before .before .move-of .ensures .number
-
-mul-used : tie.Need-mul-used Inv-loop μ-loop
-mul-used c = search needs
-
-element-set-from-used : tie.Need-element-set-from-used Inv-loop μ-loop
-element-set-from-used c = search needs
-
-cast-b : tie.Need-cast-b Inv-loop μ-loop
-cast-b c = search needs
-
-mul-b : tie.Need-mul-b Inv-loop μ-loop
-mul-b c = search needs
-
-element-write-b : tie.Need-element-write-b Inv-loop μ-loop
-element-write-b c = c .before .before .before .before .before .move-of .ensures .place
-
-cast-b-2 : tie.Need-cast-b-2 Inv-loop μ-loop
-cast-b-2 c = search needs
-
-element-write-b-2 : tie.Need-element-write-b-2 Inv-loop μ-loop
-element-write-b-2 c = search needs
-
-set-requires : tie.Need-set-requires Inv-loop μ-loop
-set-requires c κs = search needs
 
 add-count : tie.Need-add-count Inv-loop μ-loop
 add-count c = omega (arith, c .before .before .before .before .before .before .before .before .before .before .before .before .before .before .before .before .before .before .before .before .before .before .before .before .before .loop .inv .counted, c .before .before .before .before .before .before .before .before .before .before .before .before .before .before .before .before .before .before .before .before .before .before .before .before .loop-test .taken, c .before .before .before .before .before .before .before .before .before .before .before .before .before .before .before .before .before .before .before .before .before .before .before .before .before .before .before .before .before .good)
@@ -111,9 +42,6 @@ loop-less c = let e = read-as (c .before .before .before .before .before .before
 
 loop-again : tie.Need-loop-again Inv-loop μ-loop
 loop-again c = let e = read-as (c .before .before .before .before .before .before .before .before .before .before .before .before .before .before .before .before .before .before .before .before .before .before .before .before) in turns _ _ _ _ _ _ _ _ _ _ (c .before .before .before .before .before .before .before .before .before .before .before .before .before .before .before .before .before .before .before .before .before .before .before .before .before .before .before .before .before .loop .inv) _ _ _ _ _ (c .before .before .before .before .before .before .before .before .before .before .before .before .before .before .before .before .before .before .before .before .before .before .before .before .before .before .before .before .loop-test .taken) (e .0) (e .1) (e .2) (c .before .before .before .before .before .before .before .before .before .before .before .before .before .before .before .before .before .before .before .before .before .before .before .before .before .before .before .if1 .left) (rw (c .before .before .before .before .set .ensures) (is-step (c .before .before .before .before .before .before .before .before .before .before .before .before))) (c .before .before .put-event .ensures .0) (c .before .before .put-event .ensures .1)
-
-enum-told : tie.Need-enum-told Inv-loop μ-loop
-enum-told c = search needs
 
 add-put-event : tie.Need-add-put-event Inv-loop μ-loop
 add-put-event c = omega (arith, c .before .before .before .before .before .before .before .loop .inv .counted, c .before .before .before .before .before .before .loop-test .taken)
@@ -130,9 +58,6 @@ same-length-2 c = c .before .before .put-closing .kept .0 ∙ c .before .before 
 returns-2 : tie.Need-returns-2 Inv-loop μ-loop
 returns-2 c = stops _ _ _ _ _ _ _ _ (c .before .before .before .before .before .before .before .before .before .before .before .before .before .before .loop .inv) (c .before .before .before .before .before .before .before .before .before .before .before .before .before .before .before .before .before .before .pre .0) (c .before .before .before .before .before .before .before .before .before .before .before .before .before .before .before .before .before .before .pre .1) (c .before .before .before .before .before .before .before .before .before .before .before .before .before .before .before .before .before .before .pre .2) (c .before .before .before .before .before .before .before .before .before .before .before .before .before .before .before .before .before .before .pre .3) _ _ _ _ (c .before .before .before .before .before .before .before .before .before .before .before .before .before .loop-test .taken) (c .before .before .before .before .before .before .before .before .before .before .before .before .if1 .left) (rw (c .before .before .before .before .before .before .before .before .before .enum-told .given .1) at (c .before .before .before .before .before .before .before .before .before .before .before .read-event .ensures)) (c .before .before .before .before .before .before .put-event2 .ensures .0) (c .before .before .put-closing .ensures)
 
-put-closing-requires-2 : tie.Need-put-closing-requires-2 Inv-loop μ-loop
-put-closing-requires-2 c κs = c .before .before .before .loop .inv .room
-
 same-length-3 : tie.Need-same-length-3 Inv-loop μ-loop
 same-length-3 c = c .before .before .put-closing2 .kept .0 ∙ sized _ _ _ _ _ _ _ _ _ _ (c .before .before .before .before .before .before .loop .inv)
 
@@ -145,40 +70,40 @@ put-events-spec =
     (tie.spec
     Inv-loop
     μ-loop
-    loop-holds
-    sub-if1
-    same-length
+    (λ c. begins _ _ _ _ _ (c .before .before .before .pre .3) (c .before .before .before .pre .2))
+    (λ c. omega (arith, c .before .loop .inv .room))
+    (λ c. sized _ _ _ _ _ _ _ _ _ _ (c .before .before .loop .inv))
     returns
-    read-event-requires
-    enum-known-read
-    cast-number
-    mul-payment
-    element-copy-out-payment
-    cast-usage
-    mul-day
-    element-copy-out-day
-    move-of-requires
-    cast-paid
-    mul-paid
-    element-set-from-paid
-    mul-used
-    element-set-from-used
-    cast-b
-    mul-b
-    element-write-b
-    cast-b-2
-    element-write-b-2
-    set-requires
+    (λ c κs. search needs)
+    (λ c. search needs)
+    (λ c. search needs)
+    (λ c. search needs)
+    (λ c. search needs)
+    (λ c. search needs)
+    (λ c. search needs)
+    (λ c. search needs)
+    (λ c κs. search needs)
+    (λ c. search needs)
+    (λ c. search needs)
+    (λ c. c .before .before .before .move-of .ensures .number)
+    (λ c. search needs)
+    (λ c. search needs)
+    (λ c. search needs)
+    (λ c. search needs)
+    (λ c. c .before .before .before .before .before .move-of .ensures .place)
+    (λ c. search needs)
+    (λ c. search needs)
+    (λ c κs. search needs)
     add-count
     put-event-requires
     loop-less
     loop-again
-    enum-told
+    (λ c. search needs)
     add-put-event
     put-event-requires-2
     put-closing-requires
     same-length-2
     returns-2
-    put-closing-requires-2
+    (λ c κs. c .before .before .before .loop .inv .room)
     same-length-3
     returns-3)

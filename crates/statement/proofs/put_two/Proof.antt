@@ -1,4 +1,4 @@
--- `statement::put_pair` meets its contract.
+-- `statement::put_two` meets its contract.
 -- Assumes nothing.
 use Prim.Native.Nat.{_+_, _≤_}
 use native.Mathlib.Omega.{arith}
@@ -8,17 +8,8 @@ use Rattle.printing.specs.Printing.{decimal}
 use Rattle.printing.proofs.Digits.{length-decimal}
 use Rattle.printing.proofs.Placed.{field-last, field-then}
 use borrow.Author.Needs.{needs}
-use Rattle.statement.proofs.put_pair.Statement.{statement}
-use Rattle.statement.proofs.put_pair.Tie as tie
-
-put-field-requires : tie.Need-put-field-requires
-put-field-requires c κs = search needs
-
-put-field-requires-2 : tie.Need-put-field-requires-2
-put-field-requires-2 c κs = search needs
-
-same-length : tie.Need-same-length
-same-length c = search needs
+use Rattle.statement.proofs.put_two.Statement.{statement}
+use Rattle.statement.proofs.put_two.Tie as tie
 
 returns : tie.Need-returns
 returns c =
@@ -30,5 +21,5 @@ returns c =
     (field-last (now (a .two)) (decimal (a .k)) 20 (length-decimal (a .k) (s .fits .k .fits)) (c .before .before .put-field2 .ensures)) in
     (pair .0, omega (arith, pair .1))
 
-pub put-pair-spec : {M : Type 1} → statement M
-put-pair-spec = tie.close (tie.spec put-field-requires put-field-requires-2 same-length returns)
+pub put-two-spec : {M : Type 1} → statement M
+put-two-spec = tie.close (tie.spec (λ c κs. search needs) (λ c κs. search needs) (λ c. search needs) returns)
