@@ -22,8 +22,6 @@ use Rattle.ledger.specs.Rules.{Ledger}
 use Rattle.ledger.specs.Ledger.{ledgerOf}
 use Rattle.ledger.specs.Months.{monthOf, inMonth, hasDays, paymentsIn, usageIn, meteredWh, meteredCost, estimatedWh, chargesIn, noSummary, ledgerSummary}
 use Rattle.ledger.proofs.Cases.{decide, both}
-use Rattle.account.specs.Record.{costHeld}
-use Rattle.moves.specs.declared.Usage.{Usage}
 use Rattle.moves.specs.declared.Payment.{Payment}
 use Rattle.moves.specs.Moves.{isAccount, earlyCode, cellsBefore, moveOf}
 use Rattle.account.specs.Step.{stepOf}
@@ -32,13 +30,18 @@ use Rattle.refinement.specs.Lists.{Made}
 use Rattle.refinement.specs.Agree.{Agree, recordedUsage, recordedPayment}
 use Rattle.refinement.proofs.Agreed.{is-account}
 use Rattle.refinement.proofs.Lists.{made-stands}
-use Rattle.months.specs.Summary.{inMonthOf, heldKept, heldReversed, paymentsBy, one, heldAmount, whMetered, costMetered, whEstimated, usageBy, summaryBy, summaryOf, IsSummary}
+use Rattle.months.specs.Summary.{inMonthOf, heldKept, heldReversed, paymentsBy, one, heldAmount, stateOf, usageBy, summaryBy, summaryOf, IsSummary}
 use Rattle.months.proofs.Sums.{total-same, any-same, any-none}
 use Rattle.months.proofs.Numbers.{by-number, Dated, dated-after}
 
 valid-opens : (t : Terms) → validTerms t ≡ true → opens (t .opened) ≡ true
 unfolding validTerms
 valid-opens t v = both (opens (t .opened)) _ v .0
+
+state-is : (u : UsageDay) → stateOf (recordedUsage u) ≡ u
+state-is blank = refl
+state-is (estimated wh cost) = refl
+state-is (metered wh cost) = refl
 
 module _ (t : Terms) (m : ℕ) (o : opens (t .opened) ≡ true) where
   -- the same days
@@ -71,10 +74,9 @@ module _ (t : Terms) (m : ℕ) (o : opens (t .opened) ≡ true) where
         (total-same _ _ (paymentCount (l .list)) (λ n b. rw (g .kept .payments n b, in-month (paidOn (l .list) n) (d n), i n, h n))
         ∙ sym (by-number (λ (x : Option Entry). inMonth t m (orZero (λ (y : Entry). y .event .day) x)) q w (l .list)))
 
-    used : (f : Usage → ℕ) (w : UsageDay → ℕ) → ((u : UsageDay) → f (recordedUsage u) ≡ w u)
-        → usageBy (inMonthOf (t .opened) m) f (a .days) 400 ≡ usageIn t (l .list) m w
+    used : (w : UsageDay → ℕ) → usageBy (inMonthOf (t .opened) m) w (a .days) 400 ≡ usageIn t (l .list) m w
     unfolding usageBy usageIn
-    used f w h = total-same _ _ 400 (λ u b. rw (in-month u (omega arith), g .kept .days u b, h (usageDay t (l .list) u)))
+    used w = total-same _ _ 400 (λ u b. rw (in-month u (omega arith), g .kept .days u b, state-is (usageDay t (l .list) u)))
 
     charge : (k : ℕ) → m ≤ 14 → k < 5 → getD (a .charges) (5 * m + k) 0 ≡ chargesIn t (l .list) m (suc k)
     charge k h b = g .kept .charges m k (omega arith) b
@@ -85,27 +87,6 @@ module _ (t : Terms) (m : ℕ) (o : opens (t .opened) ≡ true) where
     -- no sum is past the guard
     small : (k : ℕ) → leb (chargesIn t (l .list) m k) 1099511627776 ≡ true
     small k = le-leb (chargesIn t (l .list) m k) 1099511627776 (omega (arith, g .kept .charged m k, g .bounds .full, g .sums .events))
-
-    -- by the usage day's state
-    wh-metered : (u : UsageDay) → whMetered (recordedUsage u) ≡ meteredWh u
-    wh-metered blank = refl
-    wh-metered (estimated wh cost) = refl
-    wh-metered (metered wh cost) = refl
-
-    cost-metered : (u : UsageDay) → costMetered (recordedUsage u) ≡ meteredCost u
-    cost-metered blank = refl
-    cost-metered (estimated wh cost) = refl
-    cost-metered (metered wh cost) = refl
-
-    wh-estimated : (u : UsageDay) → whEstimated (recordedUsage u) ≡ estimatedWh u
-    wh-estimated blank = refl
-    wh-estimated (estimated wh cost) = refl
-    wh-estimated (metered wh cost) = refl
-
-    cost-estimated : (u : UsageDay) → costHeld (recordedUsage u) ≡ estimateCost u
-    cost-estimated blank = refl
-    cost-estimated (estimated wh cost) = refl
-    cost-estimated (metered wh cost) = refl
 
     -- by the payment's number
     abbrev live : ℕ → Bool
@@ -118,7 +99,7 @@ module _ (t : Terms) (m : ℕ) (o : opens (t .opened) ≡ true) where
     unfolding summaryBy ledgerSummary
     summary-is = rw (is-account t a l g, g .terms, has-days) (decide (hasDays t m)
         (λ y. let h : m ≤ 14 = month-small y in
-        rw (y, first h, charge 1 h (omega arith), charge 2 h (omega arith), charge 3 h (omega arith), charge 4 h (omega arith), small 1, small 2, paid heldKept live one (λ (x : Option Entry). 1) (λ n. refl) (λ n. refl), paid heldKept live heldAmount (orZero amountOf) (λ n. refl) (λ n. refl), paid heldReversed back one (λ (x : Option Entry). 1) (λ n. refl) (λ n. refl), paid heldReversed back heldAmount (orZero amountOf) (λ n. refl) (λ n. refl), used whMetered meteredWh wh-metered, used costMetered meteredCost cost-metered, used whEstimated estimatedWh wh-estimated, used costHeld estimateCost cost-estimated))
+        rw (y, first h, charge 1 h (omega arith), charge 2 h (omega arith), charge 3 h (omega arith), charge 4 h (omega arith), small 1, small 2, paid heldKept live one (λ (x : Option Entry). 1) (λ n. refl) (λ n. refl), paid heldKept live heldAmount (orZero amountOf) (λ n. refl) (λ n. refl), paid heldReversed back one (λ (x : Option Entry). 1) (λ n. refl) (λ n. refl), paid heldReversed back heldAmount (orZero amountOf) (λ n. refl) (λ n. refl), used meteredWh, used meteredCost, used estimatedWh, used estimateCost))
         (λ f. rw f))
 
 -- The summary of an account that this software made is the ledger's of the same events.

@@ -10,12 +10,13 @@ use mathlib.Core.List.{List}
 use lib.ListN.{getD}
 use borrow.Author.Tests.{lt-ltb, le-ltb, le-leb, lt-leb}
 use Rattle.calendar.specs.Calendar.{total}
-use Rattle.account.specs.Record.{blankDay, noPayment, costHeld}
-use Rattle.moves.specs.declared.Usage.{Usage}
+use Rattle.ledger.specs.Entries.{UsageDay, estimateCost}
+use Rattle.ledger.specs.Months.{meteredWh, meteredCost, estimatedWh}
+use Rattle.account.specs.Record.{blankDay, noPayment}
 use Rattle.moves.specs.declared.Usage.the-variants.{Blank, Estimated, Metered}
 use Rattle.moves.specs.declared.Day.{Day}
 use Rattle.moves.specs.declared.Payment.{Payment}
-use Rattle.months.specs.Summary.{paymentsBy, whMetered, costMetered, whEstimated, usageBy}
+use Rattle.months.specs.Summary.{paymentsBy, stateOf, usageBy}
 use Rattle.months.specs.Work.{span, withAmount, withPayment, paidBy, withUsage, withDay, usedBy}
 use Rattle.months.specs.declared.Paid.{Paid}
 use Rattle.months.specs.declared.Usages.{Usages}
@@ -69,7 +70,7 @@ abbrev noneUsed : Usages
 noneUsed = record { metered = record { wh = 0; cost = 0 }; estimated = record { wh = 0; cost = 0 } }
 
 module _ (from to : ℕ) (l : List Day) where
-  before : (f : Usage → ℕ) → usageBy (span from to) f l from ≡ 0
+  before : (f : UsageDay → ℕ) → usageBy (span from to) f l from ≡ 0
   unfolding usageBy
   before f = total-none _ from (λ k h. simp (lt-leb from k h))
 
@@ -84,13 +85,13 @@ module _ (from to : ℕ) (l : List Day) where
   pub used-again : (d : ℕ) (s r : Usages) → from ≤ d → d < to → s ≡ usedBy (span from to) l d → r ≡ withDay s (getD l d blankDay .usage) → r ≡ usedBy (span from to) l (d + 1)
   used-again d s r h g e f = f ∙ ap (λ (x : Usages). withDay x (getD l d blankDay .usage)) e ∙ used-turn d h g
 
-  after : (f : Usage → ℕ) → to ≤ 400 → usageBy (span from to) f l 400 ≡ usageBy (span from to) f l to
+  after : (f : UsageDay → ℕ) → to ≤ 400 → usageBy (span from to) f l 400 ≡ usageBy (span from to) f l to
   unfolding usageBy
   after f h =
       let e : 400 ≡ to + (400 - to) = omega arith in
-      ap (total (λ (u : ℕ). cond (span from to u) (f (getD l u blankDay .usage)) 0)) e
+      ap (total (λ (u : ℕ). cond (span from to u) (f (stateOf (getD l u blankDay .usage))) 0)) e
       ∙ total-rest _ to (400 - to) (λ k b. simp (le-ltb k to b, and-false))
 
   pub used-all : to ≤ 400 → usedBy (span from to) l to ≡ usedBy (span from to) l 400
   unfolding usedBy
-  used-all h = rw (after whMetered h, after costMetered h, after whEstimated h, after costHeld h)
+  used-all h = rw (after meteredWh h, after meteredCost h, after estimatedWh h, after estimateCost h)

@@ -13,9 +13,10 @@ use Rattle.ledger.specs.declared.Event.{Event}
 use Rattle.ledger.specs.declared.Counted.{Counted}
 use Rattle.ledger.specs.declared.Used.{Used}
 use Rattle.ledger.specs.declared.Summary.{Summary}
-use Rattle.ledger.specs.Months.{averageOf, noSummary, ledgerSummary}
+use Rattle.ledger.specs.Entries.{UsageDay, blank, estimated, metered, estimateCost}
+use Rattle.ledger.specs.Months.{meteredWh, meteredCost, estimatedWh, averageOf, noSummary, ledgerSummary}
 use Rattle.ledger.specs.Rules.{Ledger}
-use Rattle.account.specs.Record.{blankDay, noPayment, costHeld}
+use Rattle.account.specs.Record.{blankDay, noPayment}
 use Rattle.moves.specs.Moves.{isAccount}
 use Rattle.moves.specs.declared.Usage.{Usage}
 use Rattle.moves.specs.declared.Usage.the-variants.{Blank, Estimated, Metered}
@@ -56,30 +57,21 @@ countedBy q p l n = record { count = paymentsBy q p one l n; sum = paymentsBy q 
 
 -- ---- usage days
 
-abbrev pub whMetered : Usage → ℕ
-whMetered Blank = 0
-whMetered (Estimated wh cost) = 0
-whMetered (Metered wh cost) = wh
-
-abbrev pub costMetered : Usage → ℕ
-costMetered Blank = 0
-costMetered (Estimated wh cost) = 0
-costMetered (Metered wh cost) = cost
-
-abbrev pub whEstimated : Usage → ℕ
-whEstimated Blank = 0
-whEstimated (Estimated wh cost) = wh
-whEstimated (Metered wh cost) = 0
+-- a usage day's state as the ledger has it
+abbrev pub stateOf : Usage → UsageDay
+stateOf Blank = blank
+stateOf (Estimated wh cost) = estimated wh cost
+stateOf (Metered wh cost) = metered wh cost
 
 -- the sum of f over those of the first n usage days that have q
-unfoldable pub usageBy : (ℕ → Bool) → (Usage → ℕ) → List Day → ℕ → ℕ
-usageBy q f l n = total (λ (u : ℕ). cond (q u) (f (getD l u blankDay .usage)) 0) n
+unfoldable pub usageBy : (ℕ → Bool) → (UsageDay → ℕ) → List Day → ℕ → ℕ
+usageBy q f l n = total (λ (u : ℕ). cond (q u) (f (stateOf (getD l u blankDay .usage))) 0) n
 
 abbrev pub meteredBy : (ℕ → Bool) → List Day → ℕ → Used
-meteredBy q l n = record { wh = usageBy q whMetered l n; cost = usageBy q costMetered l n }
+meteredBy q l n = record { wh = usageBy q meteredWh l n; cost = usageBy q meteredCost l n }
 
 abbrev pub estimatedBy : (ℕ → Bool) → List Day → ℕ → Used
-estimatedBy q l n = record { wh = usageBy q whEstimated l n; cost = usageBy q costHeld l n }
+estimatedBy q l n = record { wh = usageBy q estimatedWh l n; cost = usageBy q estimateCost l n }
 
 -- ---- charges: month m's of kinds 1 to 5
 abbrev pub chargesOf : List ℕ → ℕ → List ℕ
@@ -93,17 +85,17 @@ maxCharges = 1099511627776
 
 -- the figures of the payments, the usage and the charges; kinds 1 and 2 are in the average
 abbrev pub figuresBy : Counted → Counted → Used → Used → List ℕ → Summary
-figuresBy kept reversed metered estimated charges =
+figuresBy kept reversed read guessed charges =
     cond (leb (getD charges 0 0) maxCharges && leb (getD charges 1 0) maxCharges)
     (record {
       code = 0;
       kept = kept;
       reversed = reversed;
-      metered = metered;
-      estimated = estimated;
+      metered = read;
+      estimated = guessed;
       charges = charges;
-      average = averageOf (metered .cost + estimated .cost + getD charges 0 0 + getD charges 1 0) (metered .wh + estimated .wh);
-      missing = eqb (metered .wh + estimated .wh) 0;
+      average = averageOf (read .cost + guessed .cost + getD charges 0 0 + getD charges 1 0) (read .wh + guessed .wh);
+      missing = eqb (read .wh + guessed .wh) 0;
     })
     (noSummary 1)
 

@@ -6,11 +6,12 @@ use lib.Dec.{ltb, leb}
 use Rattle.ledger.specs.declared.Counted.{Counted}
 use Rattle.ledger.specs.declared.Used.{Used}
 use Rattle.ledger.specs.declared.Summary.{Summary}
-use Rattle.account.specs.Record.{costHeld}
+use Rattle.ledger.specs.Entries.{estimateCost}
+use Rattle.ledger.specs.Months.{meteredWh, meteredCost, estimatedWh}
 use Rattle.moves.specs.declared.Usage.{Usage}
 use Rattle.moves.specs.declared.Day.{Day}
 use Rattle.moves.specs.declared.Payment.{Payment}
-use Rattle.months.specs.Summary.{heldKept, heldReversed, ofPayment, one, heldAmount, countedBy, whMetered, costMetered, whEstimated, meteredBy, estimatedBy, figuresBy}
+use Rattle.months.specs.Summary.{heldKept, heldReversed, ofPayment, one, heldAmount, countedBy, stateOf, meteredBy, estimatedBy, figuresBy}
 use Rattle.months.specs.declared.Paid.{Paid}
 use Rattle.months.specs.declared.Usages.{Usages}
 
@@ -45,7 +46,7 @@ abbrev pub withUsage : Used → ℕ → ℕ → Used
 withUsage u wh cost = record { wh = u .wh + wh; cost = u .cost + cost }
 
 unfoldable pub withDay : Usages → Usage → Usages
-withDay s u = record { metered = withUsage (s .metered) (whMetered u) (costMetered u); estimated = withUsage (s .estimated) (whEstimated u) (costHeld u) }
+withDay s u = record { metered = withUsage (s .metered) (meteredWh (stateOf u)) (meteredCost (stateOf u)); estimated = withUsage (s .estimated) (estimatedWh (stateOf u)) (estimateCost (stateOf u)) }
 
 unfoldable pub usedBy : (ℕ → Bool) → List Day → ℕ → Usages
 usedBy q l n = record { metered = meteredBy q l n; estimated = estimatedBy q l n }

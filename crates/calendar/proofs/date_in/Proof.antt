@@ -20,24 +20,6 @@ below c = elim (c .if1 .came) [
   | inr w ↦ guess-last (c .before .before .args .year) (c .before .before .args .left) (c .before .before .pre) (w .left)
 ]
 
-leap-requires : tie.Need-leap-requires
-leap-requires c κs = search needs
-
-add-m : tie.Need-add-m
-add-m c = search needs
-
-add-days-before : tie.Need-add-days-before
-add-days-before c = search needs
-
-days-before-requires : tie.Need-days-before-requires
-days-before-requires c κs = search needs
-
-add-t10 : tie.Need-add-t10
-add-t10 c = search needs
-
-add-t12 : tie.Need-add-t12
-add-t12 c = search needs
-
 returns : tie.Need-returns
 returns c =
     let a = c .before .before .before .before .args in
@@ -63,12 +45,12 @@ pub date-in-spec : {M : Type 1} → statement M
 date-in-spec =
     tie.close
     (tie.spec
-    leap-requires
-    add-m
-    add-days-before
-    days-before-requires
-    add-t10
-    add-t12
+    (λ c κs. search needs)
+    (λ c. search needs)
+    (λ c. search needs)
+    (λ c κs. search needs)
+    (λ c. search needs)
+    (λ c. search needs)
     returns
     days-before-requires-2
     sub-t13

@@ -30,17 +30,11 @@ once c = rw (c .before .before .days-before .ensures, c .before .before .before 
 twice : (c : tie.After-take-year2) → c .take-year2 .result ≡ yearTaken (yearTaken (placeOf (c .before .before .before .before .before .before .before .before .args .opened) (c .before .before .before .before .before .before .before .before .args .k)))
 twice c = rw (once (c .before)) at (c .take-year2 .ensures)
 
-can-open-requires : tie.Need-can-open-requires
-can-open-requires c κs = search needs
-
 returns : tie.Need-returns
 returns c = simp (sym (c .before .can-open .ensures) ∙ not-true _ (c .if1 .taken))
 
 returns-2 : tie.Need-returns-2
 returns-2 c = simp (open-is (c .before), lt-leb _ _ (c .if2 .taken))
-
-leap-requires : tie.Need-leap-requires
-leap-requires c κs = search needs
 
 days-before-requires : tie.Need-days-before-requires
 days-before-requires c κs = known (c .before) .real .month-high
@@ -80,10 +74,10 @@ pub date-of-spec : {M : Type 1} → statement M
 date-of-spec =
     tie.close
     (tie.spec
-    can-open-requires
+    (λ c κs. search needs)
     returns
     returns-2
-    leap-requires
+    (λ c κs. search needs)
     days-before-requires
     sub-left
     add-left

@@ -22,14 +22,8 @@ difference c k e d =
     let l = day-real o (day-limits o k e .opened .real) k in
     omega (arith, c .days-after2 .ensures, c .before .days-after .ensures, l .later, ap daysAfter d)
 
-can-open-requires : tie.Need-can-open-requires
-can-open-requires c κs = search needs
-
 returns : tie.Need-returns
 returns c = λ k e _. false≢true (sym (not-true _ (c .if1 .taken)) ∙ (c .before .can-open .ensures ∙ day-limits _ k e .open-is))
-
-is-reached-requires : tie.Need-is-reached-requires
-is-reached-requires c κs = search needs
 
 returns-2 : tie.Need-returns-2
 returns-2 c = λ k e d. false≢true (sym (not-true _ (c .if2 .taken)) ∙ (c .before .is-reached .ensures ∙ (ap inReach (sym d) ∙ day-reached _ k e)))
@@ -62,9 +56,9 @@ pub day-of-spec : {M : Type 1} → statement M
 day-of-spec =
     tie.close
     (tie.spec
-    can-open-requires
+    (λ c κs. search needs)
     returns
-    is-reached-requires
+    (λ c κs. search needs)
     returns-2
     days-after-requires
     days-after-requires-2

@@ -20,18 +20,6 @@ unfolding daysBefore total
 right true = refl
 right false = refl
 
-mul-result : tie.Need-mul-result
-mul-result c = search needs
-
-array-read-result : tie.Need-array-read-result
-array-read-result c = search needs
-
-mul-result-2 : tie.Need-mul-result-2
-mul-result-2 c = search needs
-
-array-read-result-2 : tie.Need-array-read-result-2
-array-read-result-2 c = search needs
-
 returns : tie.Need-returns
 returns c = rw (c .if1 .taken) (table-is (daysBefore true) (table true) 13 (right true) (c .before .args .month) (omega arith))
 
@@ -41,4 +29,4 @@ returns-2 c = rw (c .if1 .left) (table-is (daysBefore false) (table false) 13 (r
 pub days-before-spec : {M : Type 1} → statement M
 days-before-spec =
     tie.close
-    (tie.spec mul-result array-read-result mul-result-2 array-read-result-2 returns returns-2)
+    (tie.spec (λ c. search needs) (λ c. search needs) (λ c. search needs) (λ c. search needs) returns returns-2)

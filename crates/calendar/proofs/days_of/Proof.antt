@@ -45,9 +45,6 @@ spanned o m t h = record {
   closed = λ e. absurd (false≢true (sym e ∙ t));
 }
 
-can-open-requires : tie.Need-can-open-requires
-can-open-requires c κs = search needs
-
 returns : tie.Need-returns
 returns c = empty _ _ (λ k e _. false≢true (sym (not-true _ (c .if1 .taken)) ∙ (c .before .can-open .ensures ∙ day-limits _ k e .open-is)))
 
@@ -56,9 +53,6 @@ returns-2 c = empty _ _ (λ k e d. omega (arith, c .if2 .taken, month-limit (c .
 
 month-start-requires : tie.Need-month-start-requires
 month-start-requires c κs = (open-is (c .before), omega arith)
-
-add-month-start : tie.Need-add-month-start
-add-month-start c = search needs
 
 month-start-requires-2 : tie.Need-month-start-requires-2
 month-start-requires-2 c κs = (open-is (c .before .before), omega arith)
@@ -78,11 +72,11 @@ pub days-of-spec : {M : Type 1} → statement M
 days-of-spec =
     tie.close
     (tie.spec
-    can-open-requires
+    (λ c κs. search needs)
     returns
     returns-2
     month-start-requires
-    add-month-start
+    (λ c. search needs)
     month-start-requires-2
     returns-3
     returns-4)

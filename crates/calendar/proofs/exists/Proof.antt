@@ -8,12 +8,9 @@ returns : tie.Need-returns
 unfolding dateExists
 returns c = simp (lt-leb _ _ (c .if1 .taken))
 
-month-length-requires : tie.Need-month-length-requires
-month-length-requires c κs = search needs
-
 returns-2 : tie.Need-returns-2
 unfolding dateExists
 returns-2 c = simp (le-leb _ _ (c .before .if1 .left), c .month-length .ensures)
 
 pub exists-spec : {M : Type 1} → statement M
-exists-spec = tie.close (tie.spec returns month-length-requires returns-2)
+exists-spec = tie.close (tie.spec returns (λ c κs. search needs) returns-2)

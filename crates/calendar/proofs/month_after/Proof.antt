@@ -17,21 +17,6 @@ sums c =
     let b = rw (c .before .leap .ensures) at (c .days-before .ensures) in
     omega (arith, c .before .before .years-before .ensures)
 
-years-before-requires : tie.Need-years-before-requires
-years-before-requires c κs = search needs
-
-add-leap : tie.Need-add-leap
-add-leap c = search needs
-
-leap-requires : tie.Need-leap-requires
-leap-requires c κs = search needs
-
-add-days-before : tie.Need-add-days-before
-add-days-before c = search needs
-
-days-before-requires : tie.Need-days-before-requires
-days-before-requires c κs = search needs
-
 add-result : tie.Need-add-result
 add-result c = omega (arith, sums c, sum-limit (c .before .before .before .args .i))
 
@@ -42,10 +27,10 @@ pub month-after-spec : {M : Type 1} → statement M
 month-after-spec =
     tie.close
     (tie.spec
-    years-before-requires
-    add-leap
-    leap-requires
-    add-days-before
-    days-before-requires
+    (λ c κs. search needs)
+    (λ c. search needs)
+    (λ c κs. search needs)
+    (λ c. search needs)
+    (λ c κs. search needs)
     add-result
     returns)

@@ -10,21 +10,6 @@ returns : tie.Need-returns
 unfolding monthLength
 returns c = sym (no-days (leapYear (c .before .args .year)) (c .before .args .month) (c .if1 .taken))
 
-leap-requires : tie.Need-leap-requires
-leap-requires c κs = search needs
-
-mul-result : tie.Need-mul-result
-mul-result c = search needs
-
-array-read-result : tie.Need-array-read-result
-array-read-result c = search needs
-
-mul-result-2 : tie.Need-mul-result-2
-mul-result-2 c = search needs
-
-array-read-result-2 : tie.Need-array-read-result-2
-array-read-result-2 c = search needs
-
 returns-2 : tie.Need-returns-2
 unfolding monthLength
 returns-2 c = ap (λ (l : Bool). monthDays l (c .before .before .before .args .month)) (sym (c .if2 .taken) ∙ c .before .leap .ensures)
@@ -38,10 +23,10 @@ month-length-spec =
     tie.close
     (tie.spec
     returns
-    leap-requires
-    mul-result
-    array-read-result
-    mul-result-2
-    array-read-result-2
+    (λ c κs. search needs)
+    (λ c. search needs)
+    (λ c. search needs)
+    (λ c. search needs)
+    (λ c. search needs)
     returns-2
     returns-3)

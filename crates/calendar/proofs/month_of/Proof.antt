@@ -8,24 +8,12 @@ use Rattle.calendar.proofs.month_of.Tie as tie
 answered : (c : tie.After-d) → Answered (c .before .before .before .args .opened) (c .before .before .before .args .k) (c .d .given .0 .0)
 answered c = answer-on _ _ _ (sym (c .before .before .date-of .ensures) ∙ c .d .given .1)
 
-date-of-requires : tie.Need-date-of-requires
-date-of-requires c κs = search needs
-
-enum-known-d : tie.Need-enum-known-d
-enum-known-d c = search needs
-
-month-from-requires : tie.Need-month-from-requires
-month-from-requires c κs = search needs
-
 cast-result : tie.Need-cast-result
 cast-result c =
     let b = c .before .before in
     let a = b .before .before .before .args in
     let e = rw (← answered b .date) at (c .month-from .ensures) in
     omega (arith, month-limit (a .opened) (a .k) (answered b .is-day))
-
-enum-told : tie.Need-enum-told
-enum-told c = search needs
 
 returns : tie.Need-returns
 returns c =
@@ -39,10 +27,10 @@ pub month-of-spec : {M : Type 1} → statement M
 month-of-spec =
     tie.close
     (tie.spec
-    date-of-requires
-    enum-known-d
-    month-from-requires
+    (λ c κs. search needs)
+    (λ c. search needs)
+    (λ c κs. search needs)
     cast-result
-    enum-told
+    (λ c. search needs)
     returns
     returns-2)

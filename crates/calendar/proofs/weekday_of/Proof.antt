@@ -7,18 +7,6 @@ use Rattle.calendar.proofs.weekday_of.Tie as tie
 answered : (c : tie.After-d) → Answered (c .before .before .before .args .opened) (c .before .before .before .args .k) (c .d .given .0 .0)
 answered c = answer-on _ _ _ (sym (c .before .before .date-of .ensures) ∙ c .d .given .1)
 
-date-of-requires : tie.Need-date-of-requires
-date-of-requires c κs = search needs
-
-enum-known-d : tie.Need-enum-known-d
-enum-known-d c = search needs
-
-weekday-requires : tie.Need-weekday-requires
-weekday-requires c κs = search needs
-
-enum-told : tie.Need-enum-told
-enum-told c = search needs
-
 returns : tie.Need-returns
 returns c =
     let n = answered (c .before .before) in
@@ -29,4 +17,4 @@ returns-2 c = let a = c .before .before .before .args in simp (answer-outside (a
 
 pub weekday-of-spec : {M : Type 1} → statement M
 weekday-of-spec =
-    tie.close (tie.spec date-of-requires enum-known-d weekday-requires enum-told returns returns-2)
+    tie.close (tie.spec (λ c κs. search needs) (λ c. search needs) (λ c κs. search needs) (λ c. search needs) returns returns-2)

@@ -4,9 +4,6 @@ use Rattle.calendar.specs.Work.{yearLength}
 use Rattle.calendar.proofs.year_length.Statement.{statement}
 use Rattle.calendar.proofs.year_length.Tie as tie
 
-leap-requires : tie.Need-leap-requires
-leap-requires c κs = search needs
-
 returns : tie.Need-returns
 unfolding yearLength
 returns c = simp (sym (c .before .leap .ensures) ∙ c .if1 .taken)
@@ -16,4 +13,4 @@ unfolding yearLength
 returns-2 c = simp (sym (c .before .leap .ensures) ∙ c .if1 .left)
 
 pub year-length-spec : {M : Type 1} → statement M
-year-length-spec = tie.close (tie.spec leap-requires returns returns-2)
+year-length-spec = tie.close (tie.spec (λ c κs. search needs) returns returns-2)

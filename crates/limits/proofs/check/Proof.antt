@@ -12,21 +12,6 @@ use Rattle.limits.proofs.Sorts.{either, amounts, charges, usages, marks
 use Rattle.limits.proofs.check.Statement.{statement}
 use Rattle.limits.proofs.check.Tie as tie
 
-amount-code-requires : tie.Need-amount-code-requires
-amount-code-requires c κs = search needs
-
-charge-code-requires : tie.Need-charge-code-requires
-charge-code-requires c κs = search needs
-
-mark-code-requires : tie.Need-mark-code-requires
-mark-code-requires c κs = search needs
-
-plan-code-requires : tie.Need-plan-code-requires
-plan-code-requires c κs = search needs
-
-wh-code-requires : tie.Need-wh-code-requires
-wh-code-requires c κs = search needs
-
 -- an arm's answer is the limits', where what it tests is what they ask
 by : (e : Event) (r : ℕ) (b : Bool) → inLimits e ≡ b → r ≡ cond b 0 3 → r ≡ cond (inLimits e) 0 3
 by e r b h s = s ∙ ap (λ (x : Bool). cond x 0 3) (sym h)
@@ -84,11 +69,11 @@ pub check-spec : {M : Type 1} → statement M
 check-spec =
     tie.close
     (tie.spec
-    amount-code-requires
-    charge-code-requires
-    mark-code-requires
-    plan-code-requires
-    wh-code-requires
+    (λ c κs. search needs)
+    (λ c κs. search needs)
+    (λ c κs. search needs)
+    (λ c κs. search needs)
+    (λ c κs. search needs)
     returns
     returns-2
     returns-3

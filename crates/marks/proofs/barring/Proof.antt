@@ -8,12 +8,9 @@ returns : tie.Need-returns
 unfolding barringOn
 returns c = simp (lt-leb _ _ (c .if1 .taken))
 
-element-copy-out-result : tie.Need-element-copy-out-result
-element-copy-out-result c = search needs
-
 returns-2 : tie.Need-returns-2
 unfolding barringOn
 returns-2 c = simp (le-leb _ _ (c .before .if1 .left))
 
 pub barring-spec : {M : Type 1} → statement M
-barring-spec = tie.close (tie.spec returns element-copy-out-result returns-2)
+barring-spec = tie.close (tie.spec returns (λ c. search needs) returns-2)

@@ -17,11 +17,8 @@ returns c = simp (le-leb 5 (c .before .args .weekday) (omega arith))
 returns-2 : tie.Need-returns-2
 returns-2 c = simp (c .if2 .taken, cond-same)
 
-sub-result : tie.Need-sub-result
-sub-result c = search needs
-
 returns-3 : tie.Need-returns-3
 returns-3 c = simp (lt-leb 5 (c .before .before .args .weekday) (omega arith))
 
 pub business-left-spec : {M : Type 1} → statement M
-business-left-spec = tie.close (tie.spec returns returns-2 sub-result returns-3)
+business-left-spec = tie.close (tie.spec returns returns-2 (λ c. search needs) returns-3)

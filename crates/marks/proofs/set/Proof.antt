@@ -18,15 +18,9 @@ returns-2 c =
     let e : a .to + 1 - a .from ≡ 0 = omega arith in
     simp (le-leb _ _ (c .before .if1 .left), e)
 
-mark-bit-requires : tie.Need-mark-bit-requires
-mark-bit-requires c κs = search needs
-
-set-range-requires : tie.Need-set-range-requires
-set-range-requires c κs = search needs
-
 returns-3 : tie.Need-returns-3
 unfolding marked
 returns-3 c = simp (le-leb _ _ (c .before .before .before .before .if1 .left)) (rw (c .before .mark-bit .ensures) at (c .set-range .ensures))
 
 pub set-spec : {M : Type 1} → statement M
-set-spec = tie.close (tie.spec returns returns-2 mark-bit-requires set-range-requires returns-3)
+set-spec = tie.close (tie.spec returns returns-2 (λ c κs. search needs) (λ c κs. search needs) returns-3)

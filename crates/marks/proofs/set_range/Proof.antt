@@ -16,21 +16,6 @@ abbrev μ-loop : tie.MeasureT-loop
 loop-holds : tie.Need-loop-holds Inv-loop μ-loop
 loop-holds c = (search needs, search needs, mark-none _ _ _)
 
-cast-i : tie.Need-cast-i Inv-loop μ-loop
-cast-i c = search needs
-
-element-copy-out-marks : tie.Need-element-copy-out-marks Inv-loop μ-loop
-element-copy-out-marks c = search needs
-
-element-write-marks : tie.Need-element-write-marks Inv-loop μ-loop
-element-write-marks c = search needs
-
-add-d : tie.Need-add-d Inv-loop μ-loop
-add-d c = search needs
-
-loop-less : tie.Need-loop-less Inv-loop μ-loop
-loop-less c = search needs
-
 loop-again : tie.Need-loop-again Inv-loop μ-loop
 loop-again c = let l = c .before .before .loop in (search needs, search needs, rw (mark-turn _ _ _ (l .d) (l .inv .0), l .inv .2))
 
@@ -48,10 +33,10 @@ set-range-spec =
     Inv-loop
     μ-loop
     loop-holds
-    cast-i
-    element-copy-out-marks
-    element-write-marks
-    add-d
-    loop-less
+    (λ c. search needs)
+    (λ c. search needs)
+    (λ c. search needs)
+    (λ c. search needs)
+    (λ c. search needs)
     loop-again
     returns)

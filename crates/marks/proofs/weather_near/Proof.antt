@@ -33,12 +33,6 @@ loop-holds : tie.Need-loop-holds Inv-loop μ-loop
 unfolding weatherNear
 loop-holds c = (search needs, simp (le-leb _ _ (c .if1 .left)))
 
-cast-i : tie.Need-cast-i Inv-loop μ-loop
-cast-i c = search needs
-
-element-copy-out-if2 : tie.Need-element-copy-out-if2 Inv-loop μ-loop
-element-copy-out-if2 c = search needs
-
 returns-2 : tie.Need-returns-2 Inv-loop μ-loop
 returns-2 c =
     let l = c .before .before .loop in
@@ -53,18 +47,6 @@ returns-4 : tie.Need-returns-4 Inv-loop μ-loop
 returns-4 c =
     let l = c .before .before .before .before .before .loop in
     sym (l .inv .1 ∙ near-turn _ (l .w) (l .d) (l .left) ∙ simp (eq-eqb _ _ (c .before .before .before .if2 .left), ne-eqb _ _ (c .before .before .if3 .left), lt-ltb (l .w) 5 (omega arith), eq-eqb _ _ (c .if5 .taken)))
-
-business-left-requires : tie.Need-business-left-requires Inv-loop μ-loop
-business-left-requires c κs = search needs
-
-day-before-requires : tie.Need-day-before-requires Inv-loop μ-loop
-day-before-requires c κs = search needs
-
-sub-d : tie.Need-sub-d Inv-loop μ-loop
-sub-d c = search needs
-
-loop-less : tie.Need-loop-less Inv-loop μ-loop
-loop-less c = search needs
 
 loop-again : tie.Need-loop-again Inv-loop μ-loop
 loop-again c =
@@ -82,13 +64,13 @@ weather-near-spec =
     μ-loop
     returns
     loop-holds
-    cast-i
-    element-copy-out-if2
+    (λ c. search needs)
+    (λ c. search needs)
     returns-2
     returns-3
     returns-4
-    business-left-requires
-    day-before-requires
-    sub-d
-    loop-less
+    (λ c κs. search needs)
+    (λ c κs. search needs)
+    (λ c. search needs)
+    (λ c. search needs)
     loop-again)

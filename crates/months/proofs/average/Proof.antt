@@ -10,18 +10,9 @@ returns : tie.Need-returns
 unfolding averageOf
 returns c = simp (eq-eqb _ _ (c .if1 .taken))
 
-mul-result : tie.Need-mul-result
-mul-result c = search needs
-
-add-result : tie.Need-add-result
-add-result c = search needs
-
-div-result : tie.Need-div-result
-div-result c = search needs
-
 returns-2 : tie.Need-returns-2
 unfolding averageOf
 returns-2 c = simp (ne-eqb _ _ (c .if1 .left))
 
 pub average-spec : {M : Type 1} → statement M
-average-spec = tie.close (tie.spec returns mul-result add-result div-result returns-2)
+average-spec = tie.close (tie.spec returns (λ c. search needs) (λ c. search needs) (λ c. search needs) returns-2)

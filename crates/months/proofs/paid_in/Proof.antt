@@ -18,24 +18,6 @@ abbrev μ-loop : tie.MeasureT-loop
 loop-holds : tie.Need-loop-holds Inv-loop μ-loop
 loop-holds c = (search needs, paid-none _ _, search needs)
 
-cast-i : tie.Need-cast-i Inv-loop μ-loop
-cast-i c = search needs
-
-mul-p : tie.Need-mul-p Inv-loop μ-loop
-mul-p c = search needs
-
-array-copy-out-p : tie.Need-array-copy-out-p Inv-loop μ-loop
-array-copy-out-p c = search needs
-
-with-payment-requires : tie.Need-with-payment-requires Inv-loop μ-loop
-with-payment-requires c κs = search needs
-
-add-n : tie.Need-add-n Inv-loop μ-loop
-add-n c = search needs
-
-loop-less : tie.Need-loop-less Inv-loop μ-loop
-loop-less c = search needs
-
 loop-again : tie.Need-loop-again Inv-loop μ-loop
 loop-again c =
     let l = c .before .before .before .loop in (
@@ -57,11 +39,11 @@ paid-in-spec =
     Inv-loop
     μ-loop
     loop-holds
-    cast-i
-    mul-p
-    array-copy-out-p
-    with-payment-requires
-    add-n
-    loop-less
+    (λ c. search needs)
+    (λ c. search needs)
+    (λ c. search needs)
+    (λ c κs. search needs)
+    (λ c. search needs)
+    (λ c. search needs)
     loop-again
     returns)

@@ -14,24 +14,12 @@ use Rattle.months.proofs.summary.Tie as tie
 account-is : (c : tie.Else1) → let a = c .before .before .before .before .args in isAccount (a .a .terms) (a .a .totals) ≡ true
 account-is c = sym (c .before .is-account .ensures) ∙ not-false _ (c .if1 .left)
 
-is-account-requires : tie.Need-is-account-requires
-is-account-requires c κs = search needs
-
-nothing-requires : tie.Need-nothing-requires
-nothing-requires c κs = search needs
-
 returns : tie.Need-returns
 returns c =
     let d = c .before .before in
     let a = d .before .before .before .args in
     let e = c .nothing .ensures ∙ summary-other (a .a) (a .m) (sym (d .is-account .ensures) ∙ not-true _ (c .before .if1 .taken)) in
     promised (a .a) (a .m) _ e
-
-days-of-requires : tie.Need-days-of-requires
-days-of-requires c κs = search needs
-
-nothing-requires-2 : tie.Need-nothing-requires-2
-nothing-requires-2 c κs = search needs
 
 returns-2 : tie.Need-returns-2
 returns-2 c =
@@ -44,16 +32,10 @@ returns-2 c =
 paid-in-requires : tie.Need-paid-in-requires
 paid-in-requires c κs = in-reach _ _ (account-is (c .before .before .before .before .before)) .count
 
-used-in-requires : tie.Need-used-in-requires
-used-in-requires c κs = search needs
-
 charges-in-requires : tie.Need-charges-in-requires
 charges-in-requires c κs =
     let f = c .before .before .before .before .before in
     month-small _ _ _ (f .before .before .days-of .ensures) (f .if2 .left)
-
-figures-requires : tie.Need-figures-requires
-figures-requires c κs = search needs
 
 returns-3 : tie.Need-returns-3
 returns-3 c =
@@ -70,14 +52,14 @@ pub summary-spec : {M : Type 1} → statement M
 summary-spec =
     tie.close
     (tie.spec
-    is-account-requires
-    nothing-requires
+    (λ c κs. search needs)
+    (λ c κs. search needs)
     returns
-    days-of-requires
-    nothing-requires-2
+    (λ c κs. search needs)
+    (λ c κs. search needs)
     returns-2
     paid-in-requires
-    used-in-requires
+    (λ c κs. search needs)
     charges-in-requires
-    figures-requires
+    (λ c κs. search needs)
     returns-3)

@@ -6,21 +6,6 @@ use Rattle.months.proofs.Turns.{day-blank, day-estimated, day-metered}
 use Rattle.months.proofs.with_day.Statement.{statement}
 use Rattle.months.proofs.with_day.Tie as tie
 
-enum-told : tie.Need-enum-told
-enum-told c = search needs
-
-enum-known-u : tie.Need-enum-known-u
-enum-known-u c = search needs
-
-with-usage-requires : tie.Need-with-usage-requires
-with-usage-requires c κs = search needs
-
-enum-known-u-2 : tie.Need-enum-known-u-2
-enum-known-u-2 c = search needs
-
-with-usage-requires-2 : tie.Need-with-usage-requires-2
-with-usage-requires-2 c κs = search needs
-
 returns : tie.Need-returns
 returns c = (rw (c .enum-told .given .1) (day-blank _), λ n h. omega arith)
 
@@ -40,11 +25,11 @@ pub with-day-spec : {M : Type 1} → statement M
 with-day-spec =
     tie.close
     (tie.spec
-    enum-told
-    enum-known-u
-    with-usage-requires
-    enum-known-u-2
-    with-usage-requires-2
+    (λ c. search needs)
+    (λ c. search needs)
+    (λ c κs. search needs)
+    (λ c. search needs)
+    (λ c κs. search needs)
     returns
     returns-2
     returns-3)

@@ -17,9 +17,6 @@ returns-2 : tie.Need-returns-2
 unfolding balanceOf
 returns-2 c = is-balance _ _ (simp (le-leb _ _ (c .before .before .if1 .left), lt-leb _ _ (c .if2 .taken)))
 
-signed-requires : tie.Need-signed-requires
-signed-requires c κs = search needs
-
 returns-3 : tie.Need-returns-3
 unfolding balanceOf
 returns-3 c =
@@ -27,4 +24,4 @@ returns-3 c =
     (back (c .signed .result) (record { sfits = c .signed .ok }) ∙ simp (le-leb _ _ (c .before .before .before .if1 .left), le-leb _ _ (c .before .if2 .left)) (c .signed .ensures))
 
 pub balance-spec : {M : Type 1} → statement M
-balance-spec = tie.close (tie.spec returns returns-2 signed-requires returns-3)
+balance-spec = tie.close (tie.spec returns returns-2 (λ c κs. search needs) returns-3)

@@ -25,15 +25,6 @@ returns-4 : tie.Need-returns-4
 unfolding settledOf
 returns-4 c = is-settled _ _ (simp (le-leb _ _ (c .before .before .before .before .before .before .if1 .left), le-leb _ _ (c .before .before .before .before .if2 .left), le-leb _ _ (c .before .before .if3 .left), lt-leb _ _ (c .if4 .taken)))
 
-add-signed : tie.Need-add-signed
-add-signed c = search needs
-
-add-signed-2 : tie.Need-add-signed-2
-add-signed-2 c = search needs
-
-signed-requires : tie.Need-signed-requires
-signed-requires c κs = search needs
-
 returns-5 : tie.Need-returns-5
 unfolding settledOf
 returns-5 c =
@@ -48,7 +39,7 @@ settled-spec =
     returns-2
     returns-3
     returns-4
-    add-signed
-    add-signed-2
-    signed-requires
+    (λ c. search needs)
+    (λ c. search needs)
+    (λ c κs. search needs)
     returns-5)

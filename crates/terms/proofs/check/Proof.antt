@@ -7,9 +7,6 @@ use Rattle.terms.specs.Terms.{validTerms, termsCode}
 use Rattle.terms.proofs.check.Statement.{statement}
 use Rattle.terms.proofs.check.Tie as tie
 
-can-open-requires : tie.Need-can-open-requires
-can-open-requires c κs = search needs
-
 returns : tie.Need-returns
 unfolding validTerms termsCode
 returns c = simp (sym (c .before .can-open .ensures) ∙ not-true _ (c .if1 .taken))
@@ -53,7 +50,7 @@ pub check-spec : {M : Type 1} → statement M
 check-spec =
     tie.close
     (tie.spec
-    can-open-requires
+    (λ c κs. search needs)
     returns
     returns-2
     returns-3

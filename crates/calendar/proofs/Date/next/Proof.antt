@@ -11,24 +11,12 @@ use Rattle.calendar.proofs.Date.next.Tie as tie
 reached-is : (c : tie.Else1) → inReach (c .before .before .args .self) ≡ true
 reached-is c = sym (c .before .is-reached .ensures) ∙ not-false _ (c .if1 .left)
 
-is-reached-requires : tie.Need-is-reached-requires
-is-reached-requires c κs = search needs
-
 returns : tie.Need-returns
 returns c = simp (sym (c .before .is-reached .ensures) ∙ not-true _ (c .if1 .taken))
-
-month-length-requires : tie.Need-month-length-requires
-month-length-requires c κs = search needs
-
-add-t5 : tie.Need-add-t5
-add-t5 c = search needs
 
 returns-2 : tie.Need-returns-2
 unfolding nextOf
 returns-2 c = simp (reached-is (c .before .before .before .before), lt-ltb _ _ (rw (c .before .before .before .month-length .ensures) at (c .before .if2 .taken)))
-
-add-t6 : tie.Need-add-t6
-add-t6 c = search needs
 
 returns-3 : tie.Need-returns-3
 unfolding nextOf
@@ -45,12 +33,12 @@ pub next-spec : {M : Type 1} → statement M
 next-spec =
     tie.close
     (tie.spec
-    is-reached-requires
+    (λ c κs. search needs)
     returns
-    month-length-requires
-    add-t5
+    (λ c κs. search needs)
+    (λ c. search needs)
     returns-2
-    add-t6
+    (λ c. search needs)
     returns-3
     add-t4
     returns-4)

@@ -11,9 +11,6 @@ use Rattle.calendar.proofs.Date.weekday.Tie as tie
 reached-is : (c : tie.Else1) → inReach (c .before .before .args .self) ≡ true
 reached-is c = sym (c .before .is-reached .ensures) ∙ not-false _ (c .if1 .left)
 
-is-reached-requires : tie.Need-is-reached-requires
-is-reached-requires c κs = search needs
-
 returns : tie.Need-returns
 returns c = simp (sym (c .before .is-reached .ensures) ∙ not-true _ (c .if1 .taken))
 
@@ -29,4 +26,4 @@ returns-2 c = simp (reached-is (c .before), c .days-after .ensures, weekday-afte
 
 pub weekday-spec : {M : Type 1} → statement M
 weekday-spec =
-    tie.close (tie.spec is-reached-requires returns days-after-requires add-result returns-2)
+    tie.close (tie.spec (λ c κs. search needs) returns days-after-requires add-result returns-2)
