@@ -1,4 +1,4 @@
--- The cells of a move, written into the record. Assumes nothing.
+-- The cells of a move, withCells into the record. Assumes nothing.
 use mathlib.Core.Path.{_≡_, refl, ap, _∙_}
 use mathlib.Core.Bool.{Bool, true, false, cond}
 use mathlib.Core.List.{List}
@@ -16,12 +16,12 @@ use Rattle.moves.specs.Moves.{refusing, moveOf, cellsBefore}
 use Rattle.moves.specs.declared.Move.{Move}
 use Rattle.moves.proofs.Arms.{Sound, sound}
 use Rattle.account.specs.Record.{blankDay, noPayment}
-use Rattle.account.specs.Step.{numberAt, usageAt, dayAt, cellsOf, written, posted, stepOf}
+use Rattle.account.specs.Step.{numberAt, usageAt, dayAt, cellsOf, withCells, posted, stepOf}
 use Rattle.account.specs.declared.Account.{Account}
 use Rattle.account.specs.declared.Posted.{Posted}
 
 module _ (a : Account) (e : Event) where
-  -- ---- a cell as it is, written back
+  -- ---- a cell as it is, withCells back
 
   pub days-left : set (a .days) (usageAt e) (getD (a .days) (usageAt e) blankDay) ≡ a .days
   days-left = set-getD (a .days) (usageAt e) blankDay
@@ -48,14 +48,14 @@ module _ (a : Account) (e : Event) where
   unfolding cellsBefore
   sound-is = sound _ _ _ _ _ _ (mod-lt (e .number) (omega arith), omega arith)
 
-  left : (k : ℕ) → written a e (refusing (cellsOf a e) k) ≡ a
+  left : (k : ℕ) → withCells a e (refusing (cellsOf a e) k) ≡ a
   unfolding cellsBefore
   left k = λ i. record { terms = a .terms; totals = a .totals; days = days-left i; marks = marks-left i; warned = warned-left i; payments = payments-left i; charges = charges-left i }
 
-  -- where it is refused, writing it back changes nothing: so it may be written back whatever its code
-  pub written-always : record { account = written a e m; code = m .code; value = m .value } ≡ stepOf a e
+  -- where it is refused, writing it back changes nothing: so it may be withCells back whatever its code
+  pub written-always : record { account = withCells a e m; code = m .code; value = m .value } ≡ stepOf a e
   unfolding stepOf
   written-always = decide (eqb (m .code) 0)
       (λ y. simp y)
-      (λ n. let q : written a e m ≡ a = ap (written a e) (sound-is .refused (eqb-false (m .code) 0 n)) ∙ left (m .code) in
+      (λ n. let q : withCells a e m ≡ a = ap (withCells a e) (sound-is .refused (eqb-false (m .code) 0 n)) ∙ left (m .code) in
       simp n (ap (λ (b : Account). record { account = b; code = m .code; value = m .value }) q))

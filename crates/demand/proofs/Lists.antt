@@ -27,8 +27,8 @@ use Rattle.ledger.proofs.Standing.{standing-none}
 use Rattle.account.specs.Step.{stepOf, openOf}
 use Rattle.account.specs.declared.Account.{Account}
 use Rattle.refinement.specs.Lists.{accountAfter}
-use Rattle.refinement.specs.Agree.{Stands}
-use Rattle.refinement.proofs.Lists.{stands-fresh, stands-after, opened-valid}
+use Rattle.refinement.specs.Agree.{Represents}
+use Rattle.refinement.proofs.Lists.{represents-fresh, represents-after, opened-valid}
 use Rattle.posting.specs.Posting.{answerOf, rowOf}
 use Rattle.posting.proofs.Ledgers.{answer-back, row-back, row-account, posts, posts-row}
 use Rattle.readings.specs.Readings.{balanceOf, settledOf}
@@ -38,21 +38,21 @@ use Rattle.demand.specs.Demand3.{shows, codesIn, CallHolds, CallsHold, D
 
 -- ---- one call, from an account that stands for a ledger
 
-module _ (t : Terms) (a : Account) (l : Ledger) (s : Stands t a l) where
+module _ (t : Terms) (a : Account) (l : Ledger) (s : Represents t a l) where
   -- what the call hands back is the ledger's, and the account that it leaves stands for the ledger fed its events
   record Follows (c : Call) (r : Back) (b : Account) : Type 0 where
     back : r ≡ ledgerBack t l c
-    stands : Stands t b (ledgerCalled t l c)
+    stands : Represents t b (ledgerCalled t l c)
 
   follows : (c : Call) (r : Back) (b : Account) → Called a c r b → Follows c r b
   unfolding fed accountAfter ledgerAfter
   follows (single e) r b (n, p, h) = record {
     back = h ∙ ap answered (p .answer) ∙ answer-back t a l s e;
-    stands = rw (p .account) (stands-after t (e ∷ []) a l s);
+    stands = rw (p .account) (represents-after t (e ∷ []) a l s);
   }
   follows (row es buffer) r b (n, bytes, p, h) = record {
-    back = h ∙ ap (λ (k : ℕ). written k bytes) (p .answer) ∙ ap (written (rowOf a es buffer .answer)) (p .codes) ∙ row-back t a l s es buffer;
-    stands = rw (p .account ∙ row-account a es buffer) (stands-after t (fed (row es buffer)) a l s);
+    back = h ∙ ap (λ (k : ℕ). written k bytes) (p .answer) ∙ ap (written (rowOf a es buffer .answer)) (p .bytes) ∙ row-back t a l s es buffer;
+    stands = rw (p .account ∙ row-account a es buffer) (represents-after t (fed (row es buffer)) a l s);
   }
 
   -- what the readings of the account show
@@ -112,7 +112,7 @@ call-holds t l c v q b h = record {
 
 -- ---- every list of calls
 
-pub calls-hold : (t : Terms) (cs : List Call) (vs : List Seen) (a : Account) (l : Ledger) → Stands t a l → RunsFrom a cs vs → CallsHold t l cs vs
+pub calls-hold : (t : Terms) (cs : List Call) (vs : List Seen) (a : Account) (l : Ledger) → Represents t a l → RunsFrom a cs vs → CallsHold t l cs vs
 calls-hold t [] [] a l s q = tt
 calls-hold t [] (v ∷ vs) a l s q = absurd q
 calls-hold t (c ∷ cs) [] a l s q = absurd q
@@ -147,7 +147,7 @@ runs-of (single e ∷ cs) a =
 runs-of (row es buffer ∷ cs) a =
     let w = rowOf a es buffer in
     let more = runs-of cs (w .account) in
-    (record { back = written (w .answer) (w .codes); after = read (w .account) } ∷ more .0, (w .account, (w .answer, w .codes, posts-row a es buffer (w .account) (w .codes) (w .answer) refl refl refl, refl), reads (w .account), more .1))
+    (record { back = written (w .answer) (w .bytes); after = read (w .account) } ∷ more .0, (w .account, (w .answer, w .bytes, posts-row a es buffer (w .account) (w .bytes) (w .answer) refl refl refl, refl), reads (w .account), more .1))
 
 -- ---- from what `account::open` promises
 
@@ -155,7 +155,7 @@ pub demand-3 : (t : Terms) → Demand3 t
 unfolding termsCode
 demand-3 t = record {
   every = λ first cs vs q.
-      let s : Stands t (q .0 .account) opening = rw (q .1) (stands-fresh t (opened-valid t (q .0) (q .1) (q .2))) in
+      let s : Represents t (q .0 .account) opening = rw (q .1) (represents-fresh t (opened-valid t (q .0) (q .1) (q .2))) in
       (shows-is t (q .0 .account) opening s first (q .3), calls-hold t cs vs (q .0 .account) opening s (q .4));
   some = λ v cs. let r = runs-of cs (openOf t .account) in (read (openOf t .account), r .0, (openOf t, refl, simp v, reads (openOf t .account), r .1));
 }

@@ -9,16 +9,16 @@ use Rattle.image.specs.declared.Image.{Image}
 use Rattle.image.specs.declared.ImageOpened.{ImageOpened}
 use Rattle.image.specs.declared.ImagePosted.{ImagePosted}
 
-pub record IsOpened (o : ImageOpened) (i : Image) (r : ℕ) : Type 0 where
+pub record OpensImage (o : ImageOpened) (i : Image) (r : ℕ) : Type 0 where
   pub image : i ≡ o .image
   pub code : r ≡ o .code
 
-pub record IsPosted (p : ImagePosted) (i : Image) (r : Answer) : Type 0 where
+pub record PostsImage (p : ImagePosted) (i : Image) (r : Answer) : Type 0 where
   pub image : i ≡ p .image
   pub answer : r ≡ record { code = p .code; value = p .value }
 
 -- the image after a row is that of the row's account; numbers that are no image stay as they are
-pub record IsRow (before : Image) (w : Row) (after : Image) (buffer : List ℕ) (r : ℕ) : Type 0 where
+pub record PostsRowImage (before : Image) (w : Row) (after : Image) (buffer : List ℕ) (r : ℕ) : Type 0 where
   pub image : after ≡ imageAfter before (w .account)
-  pub codes : buffer ≡ w .codes
+  pub bytes : buffer ≡ w .bytes
   pub answer : r ≡ w .answer

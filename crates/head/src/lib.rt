@@ -12,7 +12,7 @@ ghost use Rattle.posting.specs.Posting.{rowOf};
 ghost use Rattle.transcript.specs.Transcript.{WholeTranscript};
 ghost use Rattle.statement.specs.Statement.{WholeStatement};
 ghost use Rattle.image.specs.Image.{accountOf, openedOf, postedOf, readingsOf, summaryIn};
-ghost use Rattle.head.specs.Interface.{IsOpened, IsPosted, IsRow};
+ghost use Rattle.head.specs.Interface.{OpensImage, PostsImage, PostsRowImage};
 
 // The transcript of a text.
 #[no_mangle]
@@ -33,7 +33,7 @@ pub extern "C" fn prepay_statement(text: &[u8], out: &mut [u8]) -> usize
 // A fresh account. Where the terms are outside their limits the answer is 1 and every event gets 1.
 #[no_mangle]
 pub extern "C" fn prepay_open(account: &mut Image, t: Terms) -> u8
-    ensures { λ r. ⌜ IsOpened (openedOf t) (now (account .exit)) r ⌝ }
+    ensures { λ r. ⌜ OpensImage (openedOf t) (now (account .exit)) r ⌝ }
 {
     let o = image::open(t);
     *account = o.image;
@@ -43,7 +43,7 @@ pub extern "C" fn prepay_open(account: &mut Image, t: Terms) -> u8
 // One event.
 #[no_mangle]
 pub extern "C" fn prepay_post(account: &mut Image, e: Event) -> Answer
-    ensures { λ r. ⌜ IsPosted (postedOf (now (account .entry)) e) (now (account .exit)) r ⌝ }
+    ensures { λ r. ⌜ PostsImage (postedOf (now (account .entry)) e) (now (account .exit)) r ⌝ }
 {
     let before = *account;
     let p = image::post(before, e);
@@ -57,7 +57,7 @@ pub extern "C" fn prepay_post(account: &mut Image, e: Event) -> Answer
 // A row of events in order, one code byte each; 16 where the buffer is shorter than the row.
 #[no_mangle]
 pub extern "C" fn prepay_row(account: &mut Image, row: &[Event], codes: &mut [u8]) -> u8
-    ensures { λ r. ⌜ IsRow (now (account .entry)) (rowOf (accountOf (now (account .entry))) (now (row .entry)) (now (codes .entry))) (now (account .exit)) (now (codes .exit)) r ⌝ }
+    ensures { λ r. ⌜ PostsRowImage (now (account .entry)) (rowOf (accountOf (now (account .entry))) (now (row .entry)) (now (codes .entry))) (now (account .exit)) (now (codes .exit)) r ⌝ }
 {
     let before = *account;
     let mut a = image::account_of(before);

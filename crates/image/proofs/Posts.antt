@@ -10,7 +10,7 @@ use Rattle.account.specs.Step.{stepOf}
 use Rattle.account.specs.declared.Account.{Account}
 use Rattle.moves.proofs.Ways.{yes, no}
 use Rattle.image.specs.declared.Image.{Image}
-use Rattle.image.specs.Image.{isImage, noTerms, accountOf, imageOf, imageAfter, postedOf, summaryIn, Carried}
+use Rattle.image.specs.Image.{isImage, noTerms, accountOf, imageOf, imageAfter, postedOf, summaryIn, CallsAgree}
 use Rattle.image.proofs.Conversions.{inverse-holds}
 use Rattle.image.proofs.Refused.{leaves, no-account, no-summary}
 
@@ -39,5 +39,5 @@ summary-is m i f =
     let e : accountOf i ≡ fresh noTerms = simp f in
     cc (no-summary m)
 
-pub carried-holds : Carried
-carried-holds = record { post = λ a e. post-is e a; refusal = λ i e. refusal-is e i; other = λ i e. other-is e i; summary = λ i m. summary-is m i }
+pub calls-agree : CallsAgree
+calls-agree = record { post = λ a e. post-is e a; refusal = λ i e. refusal-is e i; other = λ i e. other-is e i; summary = λ i m. summary-is m i }

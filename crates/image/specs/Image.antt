@@ -157,7 +157,7 @@ summaryIn i m = summaryOf (accountOf i) m
 
 -- Over the image of a record a post is the record's own; a refusal leaves any numbers as they are; numbers that are no image get 1, for an
 -- event and for a month.
-pub record Carried : Type 0 where
+pub record CallsAgree : Type 0 where
   pub post :
       (a : Account) (e : Event)
       → postedOf (imageOf a) e ≡ record { image = imageOf (stepOf a e .account); code = stepOf a e .code; value = stepOf a e .value }

@@ -14,7 +14,7 @@ ghost use mathlib.Core.Bool.{cond};
 ghost use mathlib.Core.List.{map};
 ghost use Rattle.image.specs.Image.{usageImage, usageOf, isDayImage, dayImage, dayOf, isPaymentImage, paymentImage, paymentOf};
 ghost use Rattle.image.specs.Image.{totalsImage, totalsOf, every, isImage, noTerms, accountOf, imageOf, imageAfter};
-ghost use Rattle.image.specs.Image.{openedOf, postedOf, readingsOf, summaryIn, Inverse, Carried};
+ghost use Rattle.image.specs.Image.{openedOf, postedOf, readingsOf, summaryIn, Inverse, CallsAgree};
 
 // A usage day: state 0 blank, 1 estimated, 2 metered. A blank day has 0 Wh and costs 0.
 #[repr(C)]
@@ -386,8 +386,8 @@ pub fn inverse()
 {}
 
 // Posts over images are the record's posts; refusals leave the numbers as they are; numbers that are no image get 1.
-pub fn carried()
-    ensures { λ _. ⌜ Carried ⌝ }
+pub fn calls_agree()
+    ensures { λ _. ⌜ CallsAgree ⌝ }
 {}
 
 // ---- the calls

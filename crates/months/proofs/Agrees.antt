@@ -29,7 +29,7 @@ use Rattle.account.specs.declared.Account.{Account}
 use Rattle.refinement.specs.Lists.{Made}
 use Rattle.refinement.specs.Agree.{Agree, recordedUsage, recordedPayment}
 use Rattle.refinement.proofs.Agreed.{is-account}
-use Rattle.refinement.proofs.Lists.{made-stands}
+use Rattle.refinement.proofs.Lists.{made-represents}
 use Rattle.months.specs.Summary.{inMonthOf, heldKept, heldReversed, paymentsBy, one, heldAmount, stateOf, usageBy, summaryBy, summaryOf, IsSummary}
 use Rattle.months.proofs.Sums.{total-same, any-same, any-none}
 use Rattle.months.proofs.Numbers.{by-number, Dated, dated-after}
@@ -104,7 +104,7 @@ module _ (t : Terms) (m : ℕ) (o : opens (t .opened) ≡ true) where
 
 -- The summary of an account that this software made is the ledger's of the same events.
 pub summary-made : (a : Account) (m : ℕ) (t : Terms) (es : List Event) → Made t es a → summaryOf a m ≡ ledgerSummary t (ledgerOf t es .list) m
-summary-made a m t es h = summary-is t m (valid-opens t (h .valid)) a (ledgerOf t es) (made-stands t es a h .agree) (dated-after t es)
+summary-made a m t es h = summary-is t m (valid-opens t (h .valid)) a (ledgerOf t es) (made-represents t es a h .agree) (dated-after t es)
 
 -- An account answers 2 to an event of day 400, so where every event gets 1 there is none.
 past : Event

@@ -1,4 +1,4 @@
--- What one event does to the totals and to the cells that it may change: the head's step, without the record around it.
+-- What one event does to the totals and to the cells that it may change: the step, without the record around it.
 use Prim.Native.Nat.{ℕ, _+_, _*_, _-_, _/_, _%_, _<_, min}
 use mathlib.Core.Path.{_≡_}
 use mathlib.Core.Bool.{Bool, true, false, cond, not, _&&_, _||_}

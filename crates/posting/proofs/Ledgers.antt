@@ -16,18 +16,18 @@ use Rattle.ledger.proofs.Cases.{decide}
 use Rattle.account.specs.Step.{stepOf}
 use Rattle.account.specs.declared.Account.{Account}
 use Rattle.refinement.specs.Lists.{accountAfter, codesOf, Made, IsCalled}
-use Rattle.refinement.specs.Agree.{Stands}
-use Rattle.refinement.proofs.Lists.{refinement-holds, stands-after, made-stands, made-more}
+use Rattle.refinement.specs.Agree.{Represents}
+use Rattle.refinement.proofs.Lists.{refinement-holds, represents-after, made-represents, made-more}
 use Rattle.posting.specs.Posting.{answerOf, Posts, rowOf, PostsRow}
 
 -- ---- from any account that stands for a ledger
 
-module _ (t : Terms) (a : Account) (l : Ledger) (s : Stands t a l) where
+module _ (t : Terms) (a : Account) (l : Ledger) (s : Represents t a l) where
   pub answer-back : (e : Event) → answered (answerOf (stepOf a e)) ≡ ledgerBack t l (single e)
   unfolding ledgerBack
   answer-back e = λ i. answered (record { code = refinement-holds t (s .agree .valid) .code a l e s i; value = refinement-holds t (s .agree .valid) .value a l e s i })
 
-  pub row-back : (es : List Event) (buffer : List ℕ) → written (rowOf a es buffer .answer) (rowOf a es buffer .codes) ≡ ledgerBack t l (row es buffer)
+  pub row-back : (es : List Event) (buffer : List ℕ) → written (rowOf a es buffer .answer) (rowOf a es buffer .bytes) ≡ ledgerBack t l (row es buffer)
   unfolding rowOf ledgerBack
   row-back es buffer = decide (ltb (length buffer) (length es))
       (λ y. simp y)
@@ -45,11 +45,11 @@ unfolding fed accountAfter
 posts a e b r h g = record { account = h; answer = g; ledgers = rw (h, g) called }
   where
     called : IsCalled a (single e) (answered (answerOf (stepOf a e))) (stepOf a e .account)
-    called t es m = (answer-back t a (ledgerOf t es) (made-stands t es a m) e, made-more t es (e ∷ []) a (stepOf a e .account) m refl)
+    called t es m = (answer-back t a (ledgerOf t es) (made-represents t es a m) e, made-more t es (e ∷ []) a (stepOf a e .account) m refl)
 
 pub posts-row : (a : Account) (es : List Event) (buffer : List ℕ) (b : Account) (bytes : List ℕ) (r : ℕ)
-    → b ≡ rowOf a es buffer .account → bytes ≡ rowOf a es buffer .codes → r ≡ rowOf a es buffer .answer → PostsRow a es buffer b bytes r
-posts-row a es buffer b bytes r h g k = record { account = h; codes = g; answer = k; ledgers = rw (h, g, k) called }
+    → b ≡ rowOf a es buffer .account → bytes ≡ rowOf a es buffer .bytes → r ≡ rowOf a es buffer .answer → PostsRow a es buffer b bytes r
+posts-row a es buffer b bytes r h g k = record { account = h; bytes = g; answer = k; ledgers = rw (h, g, k) called }
   where
-    called : IsCalled a (row es buffer) (written (rowOf a es buffer .answer) (rowOf a es buffer .codes)) (rowOf a es buffer .account)
-    called t fs m = (row-back t a (ledgerOf t fs) (made-stands t fs a m) es buffer, made-more t fs (fed (row es buffer)) a (rowOf a es buffer .account) m (row-account a es buffer))
+    called : IsCalled a (row es buffer) (written (rowOf a es buffer .answer) (rowOf a es buffer .bytes)) (rowOf a es buffer .account)
+    called t fs m = (row-back t a (ledgerOf t fs) (made-represents t fs a m) es buffer, made-more t fs (fed (row es buffer)) a (rowOf a es buffer .account) m (row-account a es buffer))

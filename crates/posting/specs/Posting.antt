@@ -25,7 +25,7 @@ pub record Posts (a : Account) (e : Event) (b : Account) (r : Answer) : Type 0 w
 -- a row's account, buffer and own answer after it
 pub record Row : Type 0 where
   pub account : Account
-  pub codes : List ℕ
+  pub bytes : List ℕ
   pub answer : ℕ
 
 -- "16: lent buffer shorter than the row: nothing posted, nothing written"; else each event posted in order, its code in its own byte,
@@ -33,12 +33,12 @@ pub record Row : Type 0 where
 unfoldable pub rowOf : Account → List Event → List ℕ → Row
 rowOf a es buffer =
     cond (ltb (length buffer) (length es))
-    (record { account = a; codes = buffer; answer = 16 })
-    (record { account = accountAfter a es; codes = codesOf a es ++ drop (length es) buffer; answer = 0 })
+    (record { account = a; bytes = buffer; answer = 16 })
+    (record { account = accountAfter a es; bytes = codesOf a es ++ drop (length es) buffer; answer = 0 })
 
 -- `post_row` of the events es to account a, with a lent buffer: it leaves account b and the bytes of the buffer, and answers r.
 pub record PostsRow (a : Account) (es : List Event) (buffer : List ℕ) (b : Account) (bytes : List ℕ) (r : ℕ) : Type 0 where
   pub account : b ≡ rowOf a es buffer .account
-  pub codes : bytes ≡ rowOf a es buffer .codes
+  pub bytes : bytes ≡ rowOf a es buffer .bytes
   pub answer : r ≡ rowOf a es buffer .answer
   pub ledgers : IsCalled a (row es buffer) (written r bytes) b

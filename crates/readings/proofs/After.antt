@@ -13,11 +13,11 @@ use Rattle.ledger.proofs.Money.{diff, diff-add, diff-sub}
 use Rattle.ledger.proofs.Identity.{settled-is}
 use Rattle.moves.specs.declared.Totals.{Totals}
 use Rattle.account.specs.declared.Account.{Account}
-use Rattle.refinement.specs.Agree.{Sums, Bounds, Stands}
-use Rattle.refinement.proofs.Lists.{made-stands}
+use Rattle.refinement.specs.Agree.{Sums, Bounds, Represents}
+use Rattle.refinement.proofs.Lists.{made-represents}
 use Rattle.readings.specs.Readings.{balanceOf, settledOf, IsReading, IsBalance, IsPlan, IsService, IsSettled, IsEstimates}
 
-module _ (t : Terms) (a : Account) (l : Ledger) (q : Stands t a l) where
+module _ (t : Terms) (a : Account) (l : Ledger) (q : Represents t a l) where
   abbrev s : Totals
   s = a .totals
 
@@ -45,8 +45,8 @@ module _ (t : Terms) (a : Account) (l : Ledger) (q : Stands t a l) where
 -- ---- so for every list that made the account
 
 -- what is read off the totals of every account that stands for a ledger, is promised
-promised : {A : Type 0} (x : Totals → A) (f : Terms → Ledger → A) → ((t : Terms) (a : Account) (l : Ledger) → Stands t a l → x (a .totals) ≡ f t l) → (s : Totals) (r : A) → r ≡ x s → IsReading s (x s) f r
-promised x f g s r e = record { totals = e; ledgers = λ a h t es m. e ∙ ap x (sym h) ∙ g t a (ledgerOf t es) (made-stands t es a m) }
+promised : {A : Type 0} (x : Totals → A) (f : Terms → Ledger → A) → ((t : Terms) (a : Account) (l : Ledger) → Represents t a l → x (a .totals) ≡ f t l) → (s : Totals) (r : A) → r ≡ x s → IsReading s (x s) f r
+promised x f g s r e = record { totals = e; ledgers = λ a h t es m. e ∙ ap x (sym h) ∙ g t a (ledgerOf t es) (made-represents t es a m) }
 
 pub is-balance : (s : Totals) (r : ℤ) → r ≡ balanceOf s → IsBalance s r
 is-balance = promised balanceOf _ balance-reading

@@ -29,7 +29,7 @@ use Rattle.account.specs.declared.Account.{Account}
 use Rattle.refinement.specs.Agree.{Agree, Same}
 use Rattle.refinement.proofs.Refusals.{Passes, refuses}
 
--- The move x of the event, written into the account, is what the ledger makes of it.
+-- The move x of the event, withCells into the account, is what the ledger makes of it.
 pub record Refines (a : Account) (l : Ledger) (e : Event) (x : Move) : Type 0 where
   pub same : Same (a .terms) (posted a e x) (ledgerStep (a .terms) l e)
 

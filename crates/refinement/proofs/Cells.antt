@@ -24,7 +24,7 @@ use Rattle.moves.specs.Moves.{cellsBefore, move, totals}
 use Rattle.moves.specs.declared.Totals.{Totals}
 use Rattle.moves.specs.declared.Move.{Move}
 use Rattle.account.specs.Record.{blankDay, noPayment}
-use Rattle.account.specs.Step.{cellsOf, written}
+use Rattle.account.specs.Step.{cellsOf, withCells}
 use Rattle.account.specs.declared.Account.{Account}
 use Rattle.account.proofs.Written.{days-left, warned-left, payments-left, charges-left, marks-left}
 use Rattle.refinement.specs.Agree.{Agree, Sums, Bounds, recordedUsage, recordedPayment, recordedMarks, warnedOn}
@@ -76,12 +76,12 @@ pub record Money (a : Account) (s : Totals) (x : Effect) : Type 0 where
   pub plan-most : s .plan ≤ (a .totals .events + 1) * 50000000000
 
 module _ (a : Account) (l : Ledger) (e : Event) (g : Agree (a .terms) a l) (s : Invariant (a .terms) l) (h : Passes l e) (z : refusal (a .terms) l e ≡ 0)
-    (k : ℕ) (q : e .sort ≡ k) (m : Move) (w : m ≡ left k a e m) (x : Effect) (o : Own k (a .terms) (written a e m) (joined l e x .list)) where
+    (k : ℕ) (q : e .sort ≡ k) (m : Move) (w : m ≡ left k a e m) (x : Effect) (o : Own k (a .terms) (withCells a e m) (joined l e x .list)) where
   abbrev t : Terms
   t = a .terms
 
   abbrev b : Account
-  b = written a e m
+  b = withCells a e m
 
   abbrev after : Entries
   after = joined l e x .list

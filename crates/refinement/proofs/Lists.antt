@@ -18,37 +18,37 @@ use Rattle.account.specs.Step.{stepOf, IsOpened}
 use Rattle.account.specs.declared.Account.{Account}
 use Rattle.account.specs.declared.Opened.{Opened}
 use Rattle.refinement.specs.Lists.{accountAfter, codesOf, Made}
-use Rattle.refinement.specs.Agree.{Stands, Refinement}
+use Rattle.refinement.specs.Agree.{Represents, Refinement}
 use Rattle.refinement.proofs.Refines.{refines, agree-fresh}
 
-pub stands-fresh : (t : Terms) → validTerms t ≡ true → Stands t (fresh t) opening
-stands-fresh t v = record { agree = agree-fresh t v; invariant = invariant-valid t v }
+pub represents-fresh : (t : Terms) → validTerms t ≡ true → Represents t (fresh t) opening
+represents-fresh t v = record { agree = agree-fresh t v; invariant = invariant-valid t v }
 
 module _ (t : Terms) where
-  stands-step : (a : Account) (l : Ledger) (e : Event) → Stands t a l → Stands t (stepOf a e .account) (ledgerStep t l e .ledger)
-  stands-step a l e s = record { agree = refines t a l e (s .invariant) (s .agree) .again; invariant = invariant-step t l e (s .invariant) }
+  represents-step : (a : Account) (l : Ledger) (e : Event) → Represents t a l → Represents t (stepOf a e .account) (ledgerStep t l e .ledger)
+  represents-step a l e s = record { agree = refines t a l e (s .invariant) (s .agree) .again; invariant = invariant-step t l e (s .invariant) }
 
-  code-is : (a : Account) (l : Ledger) (e : Event) → Stands t a l → stepOf a e .code ≡ ledgerStep t l e .answer .code
+  code-is : (a : Account) (l : Ledger) (e : Event) → Represents t a l → stepOf a e .code ≡ ledgerStep t l e .answer .code
   code-is a l e s = refines t a l e (s .invariant) (s .agree) .code
 
-  pub stands-after : (es : List Event) (a : Account) (l : Ledger) → Stands t a l → Stands t (accountAfter a es) (ledgerAfter t l es)
+  pub represents-after : (es : List Event) (a : Account) (l : Ledger) → Represents t a l → Represents t (accountAfter a es) (ledgerAfter t l es)
   unfolding accountAfter ledgerAfter
-  stands-after [] a l s = s
-  stands-after (e ∷ es) a l s = stands-after es (stepOf a e .account) (ledgerStep t l e .ledger) (stands-step a l e s)
+  represents-after [] a l s = s
+  represents-after (e ∷ es) a l s = represents-after es (stepOf a e .account) (ledgerStep t l e .ledger) (represents-step a l e s)
 
-  codes-are : (es : List Event) (a : Account) (l : Ledger) → Stands t a l → codesOf a es ≡ ledgerCodes t l es
+  codes-are : (es : List Event) (a : Account) (l : Ledger) → Represents t a l → codesOf a es ≡ ledgerCodes t l es
   unfolding codesOf ledgerCodes
   codes-are [] a l s = refl
-  codes-are (e ∷ es) a l s = ap₂ (λ (c : ℕ) (r : List ℕ). c ∷ r) (code-is a l e s) (codes-are es (stepOf a e .account) (ledgerStep t l e .ledger) (stands-step a l e s))
+  codes-are (e ∷ es) a l s = ap₂ (λ (c : ℕ) (r : List ℕ). c ∷ r) (code-is a l e s) (codes-are es (stepOf a e .account) (ledgerStep t l e .ledger) (represents-step a l e s))
 
 pub refinement-holds : (t : Terms) → validTerms t ≡ true → Refinement t
 refinement-holds t v = record {
-  opens = stands-fresh t v;
+  opens = represents-fresh t v;
   code = code-is t;
   value = λ a l e s. refines t a l e (s .invariant) (s .agree) .value;
-  again = stands-step t;
+  again = represents-step t;
   codes = λ a l es. codes-are t es a l;
-  after = λ a l es. stands-after t es a l;
+  after = λ a l es. represents-after t es a l;
 }
 
 -- ---- accounts that this software made
@@ -58,8 +58,8 @@ pub opened-valid : (t : Terms) (o : Opened) → IsOpened t o → o .code ≡ 0 �
 unfolding termsCode
 opened-valid t o is z = decide (validTerms t) (λ y. y) (λ f. absurd (let one : _≡_ {A = ℕ} 1 0 = simp f at (sym (ap (λ (x : Opened). x .code) is) ∙ z) in omega arith))
 
-pub made-stands : (t : Terms) (es : List Event) (a : Account) → Made t es a → Stands t a (ledgerOf t es)
-made-stands t es a m = rw (m .account) (stands-after t es (fresh t) opening (stands-fresh t (m .valid)))
+pub made-represents : (t : Terms) (es : List Event) (a : Account) → Made t es a → Represents t a (ledgerOf t es)
+made-represents t es a m = rw (m .account) (represents-after t es (fresh t) opening (represents-fresh t (m .valid)))
 
 after-both : (es fs : List Event) (a : Account) → accountAfter a (es ++ fs) ≡ accountAfter (accountAfter a es) fs
 unfolding accountAfter

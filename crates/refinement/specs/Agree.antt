@@ -1,4 +1,4 @@
--- When an account record stands for a ledger: each of its fields is what the ledger reads off the terms and L.
+-- When an account record represents a ledger: each of its fields is what the ledger reads off the terms and L.
 use Prim.Native.Nat.{ℕ, suc, _+_, _*_, _≤_, _<_}
 use mathlib.Core.Path.{_≡_}
 use mathlib.Core.Bool.{Bool, true, cond, _&&_}
@@ -102,18 +102,18 @@ pub record Same (t : Terms) (p : Posted) (o : Outcome) : Type 0 where
   pub value : p .value ≡ o .answer .value
   pub again : Agree t (p .account) (o .ledger)
 
--- The record stands for the ledger: they agree, and the ledger's sums add up.
-pub record Stands (t : Terms) (a : Account) (l : Ledger) : Type 0 where
+-- The record represents the ledger: they agree, and the ledger's sums add up.
+pub record Represents (t : Terms) (a : Account) (l : Ledger) : Type 0 where
   pub agree : Agree t a l
   pub invariant : Invariant t l
 
--- The refinement: a fresh account stands for the opening ledger, and from an account that stands for a ledger every event gets the
--- ledger's code and value and leaves an account that stands for the ledger after it.
+-- The refinement: a fresh account represents the opening ledger, and from an account that represents a ledger every event gets the
+-- ledger's code and value and leaves an account that represents the ledger after it.
 pub record Refinement (t : Terms) : Type 0 where
-  pub opens : Stands t (fresh t) opening
-  pub code : (a : Account) (l : Ledger) (e : Event) → Stands t a l → stepOf a e .code ≡ ledgerStep t l e .answer .code
-  pub value : (a : Account) (l : Ledger) (e : Event) → Stands t a l → stepOf a e .value ≡ ledgerStep t l e .answer .value
-  pub again : (a : Account) (l : Ledger) (e : Event) → Stands t a l → Stands t (stepOf a e .account) (ledgerStep t l e .ledger)
+  pub opens : Represents t (fresh t) opening
+  pub code : (a : Account) (l : Ledger) (e : Event) → Represents t a l → stepOf a e .code ≡ ledgerStep t l e .answer .code
+  pub value : (a : Account) (l : Ledger) (e : Event) → Represents t a l → stepOf a e .value ≡ ledgerStep t l e .answer .value
+  pub again : (a : Account) (l : Ledger) (e : Event) → Represents t a l → Represents t (stepOf a e .account) (ledgerStep t l e .ledger)
   -- and so over every list of events
-  pub codes : (a : Account) (l : Ledger) (es : List Event) → Stands t a l → codesOf a es ≡ ledgerCodes t l es
-  pub after : (a : Account) (l : Ledger) (es : List Event) → Stands t a l → Stands t (accountAfter a es) (ledgerAfter t l es)
+  pub codes : (a : Account) (l : Ledger) (es : List Event) → Represents t a l → codesOf a es ≡ ledgerCodes t l es
+  pub after : (a : Account) (l : Ledger) (es : List Event) → Represents t a l → Represents t (accountAfter a es) (ledgerAfter t l es)

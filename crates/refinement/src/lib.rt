@@ -1,4 +1,4 @@
-// The refinement: the account record stands for the ledger, for one event and for lists of them.
+// The refinement: the account record represents the ledger, for one event and for lists of them.
 // It uses the account's and the ledger's definitions.
 ghost use mathlib.Core.Path.{_≡_};
 ghost use mathlib.Core.Bool.{true};

@@ -17,7 +17,7 @@ use Rattle.account.specs.Record.{fresh}
 use Rattle.account.specs.Step.{stepOf, openOf}
 use Rattle.account.specs.declared.Opened.{Opened}
 use Rattle.account.specs.declared.Account.{Account}
-use Rattle.refinement.specs.Agree.{Stands, Refinement}
+use Rattle.refinement.specs.Agree.{Represents, Refinement}
 use Rattle.refinement.proofs.Lists.{refinement-holds}
 use Rattle.readings.proofs.After.{balance-reading, settled-reading}
 use Rattle.scanner.specs.Scanner.{got, broken}
@@ -33,7 +33,7 @@ use Rattle.transcript.proofs.Counts.{by-read, fold-got, fold-broken}
 
 -- ---- one line
 
-module _ (t : Terms) (a : Account) (l : Ledger) (s : Stands t a l) where
+module _ (t : Terms) (a : Account) (l : Ledger) (s : Represents t a l) where
   closing-is : accountClosing (a .totals) ≡ ledgerClosing t l
   closing-is = rw (settled-reading t a l s, s .agree .sums .standing)
 
@@ -42,7 +42,7 @@ module _ (t : Terms) (a : Account) (l : Ledger) (s : Stands t a l) where
 
 -- ---- all lines
 
-pub lines-are : (t : Terms) → validTerms t ≡ true → (k : ℕ) (a : Account) (l : Ledger) (n : ℕ) (s : List ℕ) → Stands t a l → foldIn accountLines k (a, n) s ≡ foldIn (ledgerLines t) k (l, n) s
+pub lines-are : (t : Terms) → validTerms t ≡ true → (k : ℕ) (a : Account) (l : Ledger) (n : ℕ) (s : List ℕ) → Represents t a l → foldIn accountLines k (a, n) s ≡ foldIn (ledgerLines t) k (l, n) s
 unfolding foldIn
 lines-are t v zero a l n s h = closing-is t a l h
 lines-are t v (suc k) a l n [] h = closing-is t a l h
@@ -50,7 +50,7 @@ lines-are t v (suc k) a l n (b ∷ s) h = by-read (readEvent (b ∷ s))
     (λ e r g.
     let f : Refinement t = refinement-holds t v in
     let m : Ledger = ledgerStep t l e .ledger in
-    let st : Stands t (stepOf a e .account) m = f .again a l e h in
+    let st : Represents t (stepOf a e .account) m = f .again a l e h in
     fold-got accountLines (foldIn accountLines k) (a, n) (b ∷ s) r e (omega arith) g
     ∙ ap₂ _++_
     (line-is t (stepOf a e .account) m st n (stepOf a e .code) (stepOf a e .value)

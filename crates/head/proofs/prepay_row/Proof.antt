@@ -67,7 +67,7 @@ use Rattle.image.proofs.image_after as image-after
 use Rattle.image.proofs.image_after.Symbol as image-after-def
 use Rattle.image.proofs.image_after.Symbol.{name as #image·image-after}
 use Rattle.image.proofs.image_after.Met as image-after-thm
-use Rattle.head.specs.Interface.{IsRow}
+use Rattle.head.specs.Interface.{PostsRowImage}
 use Rattle.posting.proofs.Lent.{IsT, typedT, account-in, account-out}
 use Rattle.head.proofs.Walks.{valI, IsI, typedI, opens-image, closes-image, asks}
 use Rattle.head.proofs.prepay_row.Key.{name as #prepay-row}
@@ -79,12 +79,12 @@ abbrev byte : Ty
 byte = tyInt w8
 
 -- what the three calls promise makes what is promised here: a is the image's account, b the account after the row, and k its image
-row-is : (h k : Image) (a b : Account) (es : List Event) (cs ys : List ℕ) (r : ℕ) → a ≡ accountOf h → posting.PostsRow a es cs b ys r → k ≡ imageAfter h b → IsRow h (rowOf (accountOf h) es cs) k ys r
+row-is : (h k : Image) (a b : Account) (es : List Event) (cs ys : List ℕ) (r : ℕ) → a ≡ accountOf h → posting.PostsRow a es cs b ys r → k ≡ imageAfter h b → PostsRowImage h (rowOf (accountOf h) es cs) k ys r
 row-is h k a b es cs ys r is-a row is-k =
     let same : rowOf a es cs ≡ rowOf (accountOf h) es cs = ap (λ (d : Account). rowOf d es cs) is-a in
     record {
       image = is-k ∙ ap (imageAfter h) (row .account ∙ ap (λ (w : posting.Row). w .account) same);
-      codes = row .codes ∙ ap (λ (w : posting.Row). w .codes) same;
+      bytes = row .bytes ∙ ap (λ (w : posting.Row). w .bytes) same;
       answer = row .answer ∙ ap (λ (w : posting.Row). w .answer) same;
     }
 
@@ -139,7 +139,7 @@ module _ {M : Type 1} (𝓤 : URA M) (H : Heap 𝓤) (A : Atoms 𝓤) (W : Given
   abbrev Left : Image → List ℕ → List (Item 𝓤)
   Left k ys = ‵ (fobs γi (I.the-row .coded .code k)) ∷ ‵ (fbor (κs .0) (Body (mem I.the-row) bi oi γi)) ∷ ‵ (flft (κs .0) (qs .0)) ∷ ‵ Or ∷ ‵ (finally u8 (xc .name) ys) ∷ toks ∷ []
 
-  exits : (k : Image) (ys : List ℕ) (r : ℕ) → IsRow h (rowOf (accountOf h) (xr .now) (xc .now)) k ys r → r < 2 ^ 8 → length ys ≡ length (xc .now) → ent 𝓤 (⋆ 𝓤 H A (Left k ys)) (Post (vint w8 r))
+  exits : (k : Image) (ys : List ℕ) (r : ℕ) → PostsRowImage h (rowOf (accountOf h) (xr .now) (xc .now)) k ys r → r < 2 ^ 8 → length ys ≡ length (xc .now) → ent 𝓤 (⋆ 𝓤 H A (Left k ys)) (Post (vint w8 r))
   exits k ys r e fits l =
       qed W (Left k ys) ∵ suffices ! _ (ends-at 𝓤 H A f.ended stayed (f.clauses 𝓤 H A at-mem run) W ((κs, qs, tt, x, at), tt) (vint w8 r) r (k, (tt, (ys, tt))) (tt, (tt, (l, tt)))) $ says ! e $
       move ! (2 ∷ 5 ∷ []) $ join ! $ frame ! $ nothing ! $ move ! (4 ∷ 0 ∷ []) $ fjoin ! $ move ! (3 ∷ 0 ∷ []) $ fjoin ! $

@@ -5,7 +5,7 @@ use native.Mathlib.Omega.{arith}
 use lib.ListN.{length}
 use borrow.Author.Needs.{needs}
 use denote.Ref.{now}
-use Rattle.account.specs.Step.{stepOf, written}
+use Rattle.account.specs.Step.{stepOf, withCells}
 use Rattle.account.specs.declared.Posted.{Posted}
 use Rattle.account.proofs.Written.{written-always}
 use Rattle.text.specs.Text.{EventAt}
@@ -24,8 +24,8 @@ abbrev μ-loop : tie.MeasureT-loop
 read-as : (c : tie.After-read Inv-loop μ-loop) → EventAt (now (c .before .before .before .before .before .before .before .before .before .args .text)) (c .before .before .before .before .before .loop .at) (Got (c .read .given .0 .0) (c .read .given .0 .1 .0))
 read-as c = rw (c .read .given .1) at (c .before .before .read-event .ensures)
 
--- the record with the move written back is the step's
-is-step : (c : tie.After-move-of Inv-loop μ-loop) → let b = c .before .before .before .before .before .before .before .before .before .before .before .before .before .before .before .before .before .loop .b in let e = c .before .before .before .before .before .before .before .before .before .before .before .before .read .given .0 .0 in let m = c .move-of .result in _≡_ {A = Posted} (record { account = written b e m; code = m .code; value = m .value }) (stepOf b e)
+-- the record with the move withCells back is the step's
+is-step : (c : tie.After-move-of Inv-loop μ-loop) → let b = c .before .before .before .before .before .before .before .before .before .before .before .before .before .before .before .before .before .loop .b in let e = c .before .before .before .before .before .before .before .before .before .before .before .before .read .given .0 .0 in let m = c .move-of .result in _≡_ {A = Posted} (record { account = withCells b e m; code = m .code; value = m .value }) (stepOf b e)
 is-step c = rw (c .move-of .ensures .move) (written-always _ _)
 
 returns : tie.Need-returns Inv-loop μ-loop
