@@ -1,5 +1,5 @@
 -- The fields of an event, one after the other. Assumes nothing.
-use mathlib.Core.Path.{_≡_, refl, sym, _∙_, ap}
+use mathlib.Core.Path.{_≡_, refl, sym, _∙_, ap, subst}
 use mathlib.Core.Bool.{Bool, true, false, cond}
 use mathlib.Core.List.{List, [], _∷_, _++_}
 use mathlib.Core.Logic.{inl, inr}
@@ -51,6 +51,10 @@ module _ (l : FieldLine) where
   next-line lines e s at event-read.Broken r h g = rw g (one-more lines e (drop at s) ∙ simp h)
 
 -- ---- the lines of each sort
+
+-- an answer for a sort's lines
+pub of-sort : (e : Event) (s : List ℕ) (at : ℕ) (r : EventRead) {lines : List FieldLine} → fieldsIn sorts (e .sort) ≡ lines → FieldsAt lines e s at r → FieldsAt (fieldsIn sorts (e .sort)) e s at r
+of-sort e s at r h g = subst (λ (l : List FieldLine). FieldsAt l e s at r) (sym h) g
 
 both : {X : Type 0} (t : Bool) (x : X) → cond t x x ≡ x
 both true x = refl

@@ -7,6 +7,7 @@ use scanner::ValueRead;
 use terms::Terms;
 ghost use mathlib.Core.Path.{_≡_};
 ghost use mathlib.Core.List.{[], _∷_};
+ghost use mathlib.Core.Logic.{_⊎_};
 ghost use Prim.Native.Nat.{_≤_};
 ghost use lib.ListN.{length};
 ghost use Rattle.text.specs.Text.{TermsAt, EventAt, fieldLine, sorts, sortIn, fieldsIn, stored};
@@ -166,6 +167,22 @@ fn read_next(text: &[u8], read: EventRead, key: &[u8], field: Field) -> EventRea
 
 // ---- an event
 
+// The fields of a charge, a mark or a plan: a kind first.
+fn read_kind(text: &[u8], at: usize, event: Event) -> EventRead
+    requires { ⌜ ((event .sort ≡ 4) ⊎ (event .sort ≡ 8)) ⊎ (event .sort ≡ 9) ⌝ }
+    ensures { λ r. ⌜ FieldsAt (fieldsIn sorts (event .sort)) event (now (text .entry)) at r ⌝ }
+{
+    let read = read_field(text, at, b"kind", Field::Kind, event);
+    if event.sort == 9 {
+        return read;
+    }
+    if event.sort == 4 {
+        return read_next(text, read, b"amount", Field::Amount);
+    }
+    let read = read_next(text, read, b"from", Field::From);
+    read_next(text, read, b"to", Field::To)
+}
+
 // The fields that the event's sort names.
 fn read_fields(text: &[u8], at: usize, event: Event) -> EventRead
     requires { ⌜ at ≤ length (now text) ⌝ }
@@ -175,20 +192,12 @@ fn read_fields(text: &[u8], at: usize, event: Event) -> EventRead
     match sort {
         1 | 3 => read_field(text, at, b"amount", Field::Amount, event),
         2 => read_field(text, at, b"number", Field::Number, event),
-        4 => {
-            let charge = read_field(text, at, b"kind", Field::Kind, event);
-            read_next(text, charge, b"amount", Field::Amount)
-        }
+        4 | 8 => read_kind(text, at, event),
+        9 => read_kind(text, at, event),
         5 | 6 => {
             let used = read_field(text, at, b"usage", Field::Usage, event);
             read_next(text, used, b"wh", Field::Wh)
         }
-        8 => {
-            let mark = read_field(text, at, b"kind", Field::Kind, event);
-            let mark = read_next(text, mark, b"from", Field::From);
-            read_next(text, mark, b"to", Field::To)
-        }
-        9 => read_field(text, at, b"kind", Field::Kind, event),
         _ => EventRead::Got { event, next: at },
     }
 }
