@@ -37,8 +37,8 @@ rowOf a es buffer =
     (record { account = accountAfter a es; bytes = codesOf a es ++ drop (length es) buffer; answer = 0 })
 
 -- `post_row` of the events es to account a, with a lent buffer: it leaves account b and the bytes of the buffer, and answers r.
-pub record PostsRow (a : Account) (es : List Event) (buffer : List ℕ) (b : Account) (bytes : List ℕ) (r : ℕ) : Type 0 where
+pub record PostsRow (a : Account) (es : List Event) (buffer : List ℕ) (b : Account) (after : List ℕ) (r : ℕ) : Type 0 where
   pub account : b ≡ rowOf a es buffer .account
-  pub bytes : bytes ≡ rowOf a es buffer .bytes
+  pub bytes : after ≡ rowOf a es buffer .bytes
   pub answer : r ≡ rowOf a es buffer .answer
-  pub ledgers : IsCalled a (row es buffer) (written r bytes) b
+  pub ledgers : IsCalled a (row es buffer) (written r after) b

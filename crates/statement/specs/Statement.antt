@@ -4,6 +4,7 @@ use mathlib.Core.Path.{_≡_}
 use mathlib.Core.Bool.{cond}
 use mathlib.Core.List.{List, [], _∷_, _++_}
 use lib.ListN.{getD}
+use Rattle.calendar.specs.Calendar.{monthCount}
 use Rattle.terms.specs.declared.Terms.{Terms}
 use Rattle.ledger.specs.declared.Event.{Event}
 use Rattle.ledger.specs.declared.Summary.{Summary}
@@ -57,10 +58,6 @@ summaryRoom = paymentsRoom + usageRoom + chargesRoom
 
 abbrev pub statementRoom : ℕ
 statementRoom = 8192
-
--- months 0 to 14
-abbrev pub monthCount : ℕ
-monthCount = 15
 
 -- the lines of months 0 to n - 1
 unfoldable pub monthLines : (ℕ → Summary) → ℕ → List ℕ

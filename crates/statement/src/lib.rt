@@ -1,6 +1,7 @@
 // What `summary` prints for a text: its month figures, put whole into a lent buffer.
 // It uses the event text, the posting call, the month's figures and the printing. Its promise cites specs/Statement.antt.
 use account::Account;
+use calendar::MONTH_COUNT;
 use ledger::Summary;
 use printing::put_bytes;
 use printing::put_field;
@@ -16,13 +17,11 @@ ghost use Rattle.printing.specs.Printing.{Wrote};
 ghost use Rattle.refinement.specs.Lists.{accountAfter};
 ghost use Rattle.months.specs.Summary.{summaryOf};
 ghost use Rattle.transcript.specs.Transcript.{termsLine, byTerms};
-ghost use Rattle.statement.specs.Statement.{twoFields, paymentsPart, usagePart, chargesPart, summaryLine, paymentsRoom, usageRoom, chargesRoom, summaryRoom, statementRoom, monthCount, monthLines, eventsOf, EventsSuffice, allMonths, WholeStatement};
+ghost use Rattle.calendar.specs.Calendar.{monthCount};
+ghost use Rattle.statement.specs.Statement.{twoFields, paymentsPart, usagePart, chargesPart, summaryLine, paymentsRoom, usageRoom, chargesRoom, summaryRoom, statementRoom, monthLines, eventsOf, EventsSuffice, allMonths, WholeStatement};
 
 // A buffer that holds any statement.
 const STATEMENT_ROOM: usize = 8192;
-
-// Months 0 to 14.
-const MONTHS: u32 = 15;
 
 // ---- one line
 
@@ -134,7 +133,7 @@ fn put_months(out: &mut [u8], a: Account) -> usize
 {
     let mut m: u32 = 0;
     let mut place: usize = 0;
-    while m < MONTHS {
+    while m < MONTH_COUNT {
         let s = months::summary(a, m);
         place = put_line(out, place, m, s);
         m += 1;

@@ -2,7 +2,9 @@
 // It uses the event text, the terms, the account, the moves, the marks, the readings and the printing. Its promises cite
 // specs/Transcript.antt, specs/Counts.antt and specs/Pieces.antt, which stand on specs/Events.antt and specs/Work.antt.
 use account::Account;
+use calendar::DAY_COUNT;
 use calendar::Date;
+use ledger::MAX_PAYMENTS;
 use moves::Totals;
 use printing::put_bytes;
 use printing::put_field;
@@ -102,9 +104,9 @@ fn put_events(text: &[u8], p: Progress, out: &mut [u8]) -> Progress
                 // `account::step` on b where it stands: the record is not copied.
                 let t = b.terms;
                 let s = b.totals;
-                let number = (event.number % 128) as usize;
+                let number = (event.number % MAX_PAYMENTS) as usize;
                 let payment = b.payments[number];
-                let usage = (event.usage % 400) as usize;
+                let usage = (event.usage % DAY_COUNT) as usize;
                 let day = b.days[usage];
                 let m = moves::move_of(t, s, payment, day, &b.charges, &b.marks, &b.warned, event);
                 let totals = m.totals;
@@ -114,7 +116,7 @@ fn put_events(text: &[u8], p: Progress, out: &mut [u8]) -> Progress
                 let used = m.day;
                 b.days[usage] = used;
                 b.charges[m.place as usize] = m.sum;
-                b.warned[(event.day % 400) as usize] = m.warned;
+                b.warned[(event.day % DAY_COUNT) as usize] = m.warned;
                 marks::set(&mut b.marks, m.kind, m.from, m.to);
                 count += 1;
                 place = put_event(out, place, count, m.code, m.value, totals);
