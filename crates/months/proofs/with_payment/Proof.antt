@@ -21,9 +21,6 @@ returns c = (payment-out _ _ _ (simp (lt-leb _ _ (c .if1 .taken))), λ n h. omeg
 returns-2 : tie.Need-returns-2
 returns-2 c = (payment-out _ _ _ (simp (le-ltb _ _ (c .if2 .taken), and-false)), λ n h. omega arith)
 
-with-amount-requires : tie.Need-with-amount-requires
-with-amount-requires c κs = search needs
-
 returns-3 : tie.Need-returns-3
 returns-3 c =
     let a = c .before .before .before .before .before .before .before .before .args in
@@ -31,9 +28,6 @@ returns-3 c =
       ap (λ (x : Counted). record { kept = a .s .kept; reversed = x }) e ∙ payment-reversed (span (a .from) (a .to)) (a .s) (a .p) (inside (c .before .before .before .before)) (c .before .if3 .taken),
       λ n h. omega (arith, ap (λ (x : Counted). x .count) e),
     )
-
-with-amount-requires-2 : tie.Need-with-amount-requires-2
-with-amount-requires-2 c κs = search needs
 
 returns-4 : tie.Need-returns-4
 returns-4 c =
@@ -46,4 +40,4 @@ returns-4 c =
 pub with-payment-spec : {M : Type 1} → statement M
 with-payment-spec =
     tie.close
-    (tie.spec returns returns-2 with-amount-requires returns-3 with-amount-requires-2 returns-4)
+    (tie.spec returns returns-2 (λ c κs. search needs) returns-3 (λ c κs. search needs) returns-4)
