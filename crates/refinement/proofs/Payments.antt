@@ -17,7 +17,7 @@ use Rattle.ledger.specs.declared.Event.{Event}
 use Rattle.ledger.specs.Entries.{paymentCount, paidAmount, paidPart, reversed}
 use Rattle.ledger.specs.Rules.{Ledger}
 use Rattle.ledger.specs.Months.{monthOf}
-use Rattle.ledger.specs.Ledger.{planPart, payEffect, reverseEffect, balanceEffect, refusal}
+use Rattle.ledger.specs.Ledger.{effectOf, planPart, payEffect, reverseEffect, balanceEffect, refusal}
 use Rattle.ledger.specs.Invariant.{Invariant}
 use Rattle.ledger.proofs.Cases.{decide}
 use Rattle.ledger.proofs.Money.{diff}
@@ -30,7 +30,7 @@ use Rattle.account.specs.Record.{noPayment}
 use Rattle.account.specs.Step.{numberAt, cellsOf}
 use Rattle.account.specs.declared.Account.{Account}
 use Rattle.refinement.specs.Agree.{Agree, recordedPayment}
-use Rattle.refinement.proofs.Refusals.{Passes, pay-code, reverse-code, credit-code, charge-code, pay-move, reverse-move, credit-move, charge-move}
+use Rattle.refinement.proofs.Refusals.{Passes, pay-code, reverse-code, credit-code, charge-code}
 use Rattle.refinement.proofs.Keeps.{charges-set, payments-set, payments-reverse}
 use Rattle.refinement.proofs.Agreed.{Refines, refused-same, raised, lowered, facts}
 use Rattle.refinement.proofs.Cells.{Money, accepted}
@@ -50,14 +50,14 @@ module _ (a : Account) (l : Ledger) (e : Event) (g : Agree (a .terms) a l) (s : 
   unreversed = decide (reversed (l .list) (paymentCount (l .list))) (λ r. absurd (omega (arith, s .numbers _ r))) (λ f. f)
 
   pub pays : e .sort ≡ 1 → Refines a l e (payOf t c e)
-  unfolding payOf payEffect cellsBefore
+  unfolding effectOf payOf payEffect cellsBefore
   pays k = branch (Refines a l e) (leb 128 (a .totals .count))
       (λ y. refused-same a l g e 5 (pay-code t l e h k ∙ simp (rw (g .sums .count) at y)) refl)
       (λ f. let f′ : leb 128 (paymentCount (l .list)) ≡ false = rw (g .sums .count) at f in
       let p : ℕ = planPart t l (e .amount) in
       accepted a l e g s h (pay-code t l e h k ∙ simp f′) 1 k _ refl (payEffect t l e)
       (rw (part-is, g .sums .count) (payments-set t a e p (l .list) (g .kept) (rw k refl) (rw k refl) (g .sizes .payments) (leb-false 128 (paymentCount (l .list)) f′) unreversed))
-      (pay-move t l e k) refl (g .sums .count)
+      (rw k refl) refl (g .sums .count)
       (record {
         balance = raised a l g (e .amount - p) ∙ ap (λ (q : ℕ). diff (a .totals .credit + (e .amount - q)) (a .totals .debit)) (sym part-is);
         plan = ap (λ (q : ℕ). a .totals .plan - q) part-is ∙ ap (λ (r : ℕ). r - p) (g .sums .plan);
@@ -80,13 +80,13 @@ module _ (a : Account) (l : Ledger) (e : Event) (g : Agree (a .terms) a l) (s : 
     payment-is = ap (λ (i : ℕ). getD (a .payments) i noPayment) number-is ∙ g .kept .payments (e .number) there
 
     reversing : e .sort ≡ 2 → Refines a l e (reverseOf t c e)
-    unfolding reverseOf reverseEffect cellsBefore
+    unfolding effectOf reverseOf reverseEffect cellsBefore
     reversing k = branch (Refines a l e) (leb (a .totals .count) (e .number)) (λ y. absurd (true≢false (sym y ∙ f)))
         (λ _. branch (Refines a l e) (c .payment .reversed)
         (λ r. refused-same a l g e 6 (reverse-code t l e h k ∙ simp (rw (g .sums .count) at f, sym (ap (λ (x : Payment). x .reversed) payment-is) ∙ r)) refl)
         (λ r. accepted a l e g s h (reverse-code t l e h k ∙ simp (rw (g .sums .count) at f, sym (ap (λ (x : Payment). x .reversed) payment-is) ∙ r)) 2 k _ refl (reverseEffect l e)
         (rw (number-is, g .kept .payments (e .number) there) (payments-reverse t a e 0 (l .list) (g .kept) (rw k refl) (rw k refl) (g .sizes .payments) (omega (arith, g .bounds .count, g .sums .count)) there))
-        (reverse-move t l e k) refl refl
+        (rw k refl) refl refl
         (record {
           balance = lowered a l g (paidAmount (l .list) (e .number) - paidPart (l .list) (e .number)) ∙ ap (λ (x : Payment). diff (a .totals .credit) (a .totals .debit + (x .amount - x .part))) (sym payment-is);
           plan = ap (λ (x : Payment). a .totals .plan + x .part) payment-is ∙ ap (λ (x : ℕ). x + paidPart (l .list) (e .number)) (g .sums .plan);
@@ -105,8 +105,8 @@ module _ (a : Account) (l : Ledger) (e : Event) (g : Agree (a .terms) a l) (s : 
       (λ f. reversing f k)
 
   pub credits : e .sort ≡ 3 → Refines a l e (creditOf t c e)
-  unfolding creditOf cellsBefore
-  credits k = accepted a l e g s h (credit-code t l e h k) 3 k _ refl (balanceEffect l 0 (l .balance +ℤ pos (e .amount))) tt (credit-move t l e k) refl refl
+  unfolding effectOf creditOf cellsBefore
+  credits k = accepted a l e g s h (credit-code t l e h k) 3 k _ refl (balanceEffect l 0 (l .balance +ℤ pos (e .amount))) tt (rw k refl) refl refl
       (record {
         balance = raised a l g (e .amount);
         plan = g .sums .plan;
@@ -132,12 +132,12 @@ module _ (a : Account) (l : Ledger) (e : Event) (g : Agree (a .terms) a l) (s : 
       (omega (arith, g .kept .charged (monthOf t (e .day)) (suc (e .kind - 1)), g .bounds .full, g .sums .events)))
 
   pub charged : e .sort ≡ 4 → Refines a l e (chargeOf t c (a .charges) e)
-  unfolding chargeOf cellsBefore
+  unfolding effectOf chargeOf cellsBefore
   charged k = branch (Refines a l e) (ltb maxTotal (getD (a .charges) (chargePlace t e) 0)) (λ y. absurd (true≢false (sym y ∙ small k)))
       (λ _. let limit = charge-limits e k (h .limits) in
       accepted a l e g s h (charge-code t l e h k) 4 k _ refl (balanceEffect l 0 (l .balance -ℤ pos (e .amount)))
       (charges-set t a e 0 (l .list) (g .kept) (rw k refl) (g .sizes .charges) month-is (month-limit (t .opened) (e .day) a-day) (limit .kind .least) (limit .kind .most))
-      (charge-move t l e k) refl refl
+      (rw k refl) refl refl
       (record {
         balance = lowered a l g (e .amount);
         plan = g .sums .plan;

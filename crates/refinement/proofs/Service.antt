@@ -21,7 +21,7 @@ use Rattle.ledger.specs.declared.Event.{Event}
 use Rattle.ledger.specs.Event.{isWarn}
 use Rattle.ledger.specs.Entries.{Entries, any, warned, weather, weekday, covered, barred, business, weatherRecent}
 use Rattle.ledger.specs.Rules.{Ledger, mayDefer}
-use Rattle.ledger.specs.Ledger.{serviceEffect, planEffect, deferred, effectOf, refusal}
+use Rattle.ledger.specs.Ledger.{effectOf, serviceEffect, planEffect, deferred, refusal}
 use Rattle.ledger.specs.Invariant.{Invariant}
 use Rattle.ledger.proofs.Cases.{decide, both}
 use Rattle.ledger.proofs.Money.{diff, diff-eq, diff-zero, diff-lt, diff-ge, diff-low, diff-gap}
@@ -32,7 +32,7 @@ use Rattle.moves.proofs.Early.{mark-limits}
 use Rattle.account.specs.Step.{dayAt, cellsOf}
 use Rattle.account.specs.declared.Account.{Account}
 use Rattle.refinement.specs.Agree.{Agree, warnedOn}
-use Rattle.refinement.proofs.Refusals.{Passes, warn-code, mark-code, plan-code, disconnect-code, connect-code, warn-move, mark-move, plan-move, disconnect-move, connect-move}
+use Rattle.refinement.proofs.Refusals.{Passes, warn-code, mark-code, plan-code, disconnect-code, connect-code}
 use Rattle.refinement.proofs.Keeps.{marks-set, warned-set}
 use Rattle.refinement.proofs.Agreed.{Refines, refused-same, facts}
 use Rattle.refinement.proofs.Cells.{Money, accepted}
@@ -133,16 +133,16 @@ module _ (a : Account) (l : Ledger) (e : Event) (g : Agree (a .terms) a l) (s : 
   unserved = still (a .totals .on) (l .on) (g .sums .on)
 
   pub warns : e .sort ≡ 7 → Refines a l e (warnOf t c e)
-  unfolding warnOf cellsBefore
+  unfolding effectOf warnOf cellsBefore
   warns k =
       let on-day : dayAt e ≡ e .day = mod-eq-of-lt (omega (arith, day)) in
-      accepted a l e g s h (warn-code t l e h k) 7 k _ refl (serviceEffect l (l .on)) (rw on-day (warned-set t a e 0 (l .list) (g .kept) (rw k refl) (g .sizes .warned) (omega (arith, day)))) (warn-move t l e k) refl refl unserved
+      accepted a l e g s h (warn-code t l e h k) 7 k _ refl (serviceEffect l (l .on)) (rw on-day (warned-set t a e 0 (l .list) (g .kept) (rw k refl) (g .sizes .warned) (omega (arith, day)))) (rw k refl) refl refl unserved
 
   pub marked : e .sort ≡ 8 → Refines a l e (markOf t c e)
-  unfolding markOf cellsBefore
+  unfolding effectOf markOf cellsBefore
   marked k =
       let limit = mark-limits e k (h .limits) in
-      accepted a l e g s h (mark-code t l e h k) 8 k _ refl (serviceEffect l (l .on)) (marks-set t a e 0 (l .list) (g .kept) (rw k refl) (g .sizes .marks) (limit .kind .least) (limit .kind .most) (limit .to)) (mark-move t l e k) refl refl unserved
+      accepted a l e g s h (mark-code t l e h k) 8 k _ refl (serviceEffect l (l .on)) (marks-set t a e 0 (l .list) (g .kept) (rw k refl) (g .sizes .marks) (limit .kind .least) (limit .kind .most) (limit .to)) (rw k refl) refl refl unserved
 
   -- a plan is for a B below 0
   short : planConditionMet t (a .totals) (a .marks) e ≡ true → a .totals .credit ≤ a .totals .debit
@@ -155,14 +155,14 @@ module _ (a : Account) (l : Ledger) (e : Event) (g : Agree (a .terms) a l) (s : 
   deferral-is y = sym (ap (λ (b : ℤ). natAbs (pos (t .connect) -ℤ b)) (g .sums .balance) ∙ diff-gap (a .totals .credit) (a .totals .debit) (t .connect) y)
 
   deferring : e .sort ≡ 9 → planConditionMet t (a .totals) (a .marks) e ≡ true → Refines a l e (deferredOf t c e)
-  unfolding deferredOf planEffect cellsBefore
+  unfolding effectOf deferredOf planEffect cellsBefore
   deferring k y =
       let allowed : mayDefer t l e ≡ true = sym plan-is ∙ y in
       let low : a .totals .credit ≤ a .totals .debit = short y in
       let q : deferralOf t (a .totals) ≡ deferred t l = deferral-is low in
       branch (Refines a l e) (ltb 0 (a .totals .plan))
       (λ p. refused-same a l g e 10 (plan-code t l e h k ∙ simp (allowed, rw (g .sums .plan) at p)) refl)
-      (λ p. accepted a l e g s h (plan-code t l e h k ∙ simp (allowed, rw (g .sums .plan) at p)) 9 k _ refl (planEffect t l) tt (plan-move t l e k) refl q
+      (λ p. accepted a l e g s h (plan-code t l e h k ∙ simp (allowed, rw (g .sums .plan) at p)) 9 k _ refl (planEffect t l) tt (rw k refl) refl q
       (record {
         balance = diff-zero (t .connect) ∙ diff-eq (t .connect) 0 (a .totals .credit + deferralOf t (a .totals)) (a .totals .debit) (omega arith);
         plan = ap (λ (x : ℕ). x + deferralOf t (a .totals)) (g .sums .plan) ∙ ap (λ (x : ℕ). l .plan + x) q;
@@ -186,7 +186,7 @@ module _ (a : Account) (l : Ledger) (e : Event) (g : Agree (a .terms) a l) (s : 
   connect-is = sym (ap (λ (b : ℤ). ltZ b (pos (t .connect))) (g .sums .balance) ∙ diff-lt (a .totals .credit) (a .totals .debit) (t .connect))
 
   pub disconnects : e .sort ≡ 10 → Refines a l e (disconnectOf t c (a .marks) (a .warned) e)
-  unfolding disconnectOf servedOf cellsBefore
+  unfolding effectOf disconnectOf servedOf cellsBefore
   disconnects k =
       branch (Refines a l e) (not (a .totals .on)) (λ o. refused-same a l g e 11 (disconnect-code t l e h k ∙ simp (rw (g .sums .on) at o)) refl)
       (λ o. let o′ : not (l .on) ≡ false = rw (g .sums .on) at o in
@@ -195,12 +195,12 @@ module _ (a : Account) (l : Ledger) (e : Event) (g : Agree (a .terms) a l) (s : 
       branch (Refines a l e) (isMissing (latestWarning (a .warned) (e .day))) (λ w. refused-same a l g e 13 (disconnect-code t l e h k ∙ simp (o′, b′, sym warning-is ∙ w)) refl)
       (λ w. let w′ = sym warning-is ∙ w in
       branch (Refines a l e) (barredOn t (a .marks) e) (λ r. refused-same a l g e 14 (disconnect-code t l e h k ∙ simp (o′, b′, w′, sym barred-is ∙ r)) refl)
-      (λ r. accepted a l e g s h (disconnect-code t l e h k ∙ simp (o′, b′, w′, sym barred-is ∙ r)) 10 k _ refl (serviceEffect l false) tt (disconnect-move t l e k) refl refl (still false false refl)))))
+      (λ r. accepted a l e g s h (disconnect-code t l e h k ∙ simp (o′, b′, w′, sym barred-is ∙ r)) 10 k _ refl (serviceEffect l false) tt (rw k refl) refl refl (still false false refl)))))
 
   pub connects : e .sort ≡ 11 → Refines a l e (connectOf t c e)
-  unfolding connectOf servedOf cellsBefore
+  unfolding effectOf connectOf servedOf cellsBefore
   connects k =
       branch (Refines a l e) (a .totals .on) (λ o. refused-same a l g e 11 (connect-code t l e h k ∙ simp (rw (g .sums .on) at o)) refl)
       (λ o. let o′ : l .on ≡ false = rw (g .sums .on) at o in
       branch (Refines a l e) (ltb (a .totals .credit) (a .totals .debit + t .connect)) (λ b. refused-same a l g e 12 (connect-code t l e h k ∙ simp (o′, sym connect-is ∙ b)) refl)
-      (λ b. accepted a l e g s h (connect-code t l e h k ∙ simp (o′, sym connect-is ∙ b)) 11 k _ refl (serviceEffect l true) tt (connect-move t l e k) refl refl (still true true refl)))
+      (λ b. accepted a l e g s h (connect-code t l e h k ∙ simp (o′, sym connect-is ∙ b)) 11 k _ refl (serviceEffect l true) tt (rw k refl) refl refl (still true true refl)))

@@ -14,7 +14,7 @@ use Rattle.terms.specs.declared.Terms.{Terms}
 use Rattle.ledger.specs.declared.Event.{Event}
 use Rattle.ledger.specs.Entries.{usageCost, any, readOn, estimateOn, priceOn, UsageDay, blank, estimated, metered, usageDay, isBlank, isMetered, estimateCost}
 use Rattle.ledger.specs.Rules.{Ledger}
-use Rattle.ledger.specs.Ledger.{estimateEffect, readEffect, refusal}
+use Rattle.ledger.specs.Ledger.{effectOf, estimateEffect, readEffect, refusal}
 use Rattle.ledger.specs.Invariant.{Invariant}
 use Rattle.ledger.proofs.Cases.{neither}
 use Rattle.ledger.proofs.Money.{diff, diff-sub}
@@ -29,7 +29,7 @@ use Rattle.account.specs.Step.{usageAt, cellsOf}
 use Rattle.account.specs.declared.Account.{Account}
 use Rattle.refinement.specs.Agree.{Agree, recordedUsage}
 use Rattle.refinement.proofs.Fields.{usage-estimated, usage-metered}
-use Rattle.refinement.proofs.Refusals.{Passes, estimate-code, read-code, estimate-move, read-move}
+use Rattle.refinement.proofs.Refusals.{Passes, estimate-code, read-code}
 use Rattle.refinement.proofs.Keeps.{days-set}
 use Rattle.refinement.proofs.Agreed.{Refines, refused-same, raised, lowered, facts, standing-is}
 use Rattle.refinement.proofs.Cells.{Money, accepted}
@@ -65,7 +65,7 @@ module _ (a : Account) (l : Ledger) (e : Event) (g : Agree (a .terms) a l) (s : 
     state-is = sym (ap (λ (i : ℕ). getD (a .days) i blankDay .usage) usage-is ∙ g .kept .days (e .usage) used)
 
     estimating : e .sort ≡ 5 → isBlank state ≡ true → Refines a l e (estimatedOf t c e)
-    unfolding estimatedOf estimateEffect cellsBefore
+    unfolding effectOf estimatedOf estimateEffect cellsBefore
     estimating k y =
         let z : refusal t l e ≡ 0 = estimate-code t l e h k ∙ simp (f, y) in
         let free : (any (readOn (e .usage)) (l .list) || any (estimateOn (e .usage)) (l .list)) ≡ false = not-true _ (sym (blank-is t (l .list) (e .usage)) ∙ y) in
@@ -75,7 +75,7 @@ module _ (a : Account) (l : Ledger) (e : Event) (g : Agree (a .terms) a l) (s : 
           omega (arith, g .sums .standing, simp (sort-is k 6 refl, sort-is k 5 refl) at (standing-is a l g e h s z 0), cost-is),
           omega (arith, g .bounds .standing, most),
         )
-        (estimate-move t l e k) refl cost-is
+        (rw k refl) refl cost-is
         (record {
           balance = lowered a l g (usageCost t (l .list) e) ∙ ap (λ (x : ℕ). diff (a .totals .credit) (a .totals .debit + x)) (sym cost-is);
           plan = g .sums .plan;
@@ -86,7 +86,7 @@ module _ (a : Account) (l : Ledger) (e : Event) (g : Agree (a .terms) a l) (s : 
         })
 
     reading : (old : ℕ) → e .sort ≡ 6 → isMetered state ≡ false → old ≡ estimateCost state → old ≤ 10000000 → Refines a l e (meteredOf t c e old)
-    unfolding meteredOf readEffect cellsBefore
+    unfolding effectOf meteredOf readEffect cellsBefore
     reading old k y q small =
         let z : refusal t l e ≡ 0 = read-code t l e h k ∙ simp (f, y) in
         let most = cost-on t (a .totals) e (facts a l g e h) (inr k) in
@@ -95,7 +95,7 @@ module _ (a : Account) (l : Ledger) (e : Event) (g : Agree (a .terms) a l) (s : 
           omega (arith, g .sums .standing, simp (sort-is k 6 refl, sort-is k 5 refl) at (standing-is a l g e h s z 0), q),
           omega (arith, g .bounds .standing),
         )
-        (read-move t l e k) refl cost-is
+        (rw k refl) refl cost-is
         (record {
           balance = ap (λ (x : ℤ). x -ℤ pos (usageCost t (l .list) e)) (raised a l g (estimateCost state))
               ∙ diff-sub (a .totals .credit + estimateCost state) (a .totals .debit) (usageCost t (l .list) e)
