@@ -1,8 +1,6 @@
 -- The cells of a move, withCells into the record. Assumes nothing.
 use mathlib.Core.Path.{_≡_, refl, ap, _∙_}
-use mathlib.Core.Bool.{Bool, true, false, cond}
-use mathlib.Core.List.{List}
-use Prim.Native.Nat.{ℕ, _<_}
+use Prim.Native.Nat.{ℕ}
 use native.Mathlib.Nat.{mod-lt}
 use native.Mathlib.Omega.{arith}
 use lib.ListN.{getD, set}
@@ -16,9 +14,8 @@ use Rattle.moves.specs.Moves.{refusing, moveOf, cellsBefore}
 use Rattle.moves.specs.declared.Move.{Move}
 use Rattle.moves.proofs.Arms.{Sound, sound}
 use Rattle.account.specs.Record.{blankDay, noPayment}
-use Rattle.account.specs.Step.{numberAt, usageAt, dayAt, cellsOf, withCells, posted, stepOf}
+use Rattle.account.specs.Step.{numberAt, usageAt, dayAt, cellsOf, withCells, stepOf}
 use Rattle.account.specs.declared.Account.{Account}
-use Rattle.account.specs.declared.Posted.{Posted}
 
 module _ (a : Account) (e : Event) where
   -- ---- a cell as it is, withCells back

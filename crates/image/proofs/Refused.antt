@@ -1,7 +1,6 @@
 -- A refused event leaves the account as it was, and where there is no account every event and every month gets 1. Assumes nothing.
 use Prim.Native.Nat.{ℕ}
 use mathlib.Core.Path.{_≡_, refl}
-use mathlib.Core.Bool.{cond}
 use borrow.Author.Tests.{ne-eqb}
 use Rattle.calendar.specs.Calendar.{opens}
 use Rattle.terms.specs.Terms.{validTerms, termsCode}

@@ -2,7 +2,6 @@
 -- Assumes nothing.
 use Prim.Native.Nat.{ℕ}
 use mathlib.Core.Path.{_≡_, refl, ap}
-use mathlib.Core.Bool.{true, false, cond}
 use mathlib.Core.List.{List, [], _∷_, _++_}
 use lib.ListN.{length, drop}
 use lib.Dec.{ltb}
@@ -10,14 +9,14 @@ use Rattle.terms.specs.declared.Terms.{Terms}
 use Rattle.ledger.specs.declared.Event.{Event}
 use Rattle.ledger.specs.declared.Answer.{Answer}
 use Rattle.ledger.specs.Rules.{Ledger}
-use Rattle.ledger.specs.Ledger.{ledgerStep, ledgerOf}
-use Rattle.ledger.specs.Calls.{Back, single, row, answered, written, fed, ledgerBack}
+use Rattle.ledger.specs.Ledger.{ledgerOf}
+use Rattle.ledger.specs.Calls.{single, row, answered, written, fed, ledgerBack}
 use Rattle.ledger.proofs.Cases.{decide}
 use Rattle.account.specs.Step.{stepOf}
 use Rattle.account.specs.declared.Account.{Account}
-use Rattle.refinement.specs.Lists.{accountAfter, codesOf, Made, IsCalled}
+use Rattle.refinement.specs.Lists.{accountAfter, IsCalled}
 use Rattle.refinement.specs.Agree.{Represents}
-use Rattle.refinement.proofs.Lists.{refinement-holds, represents-after, made-represents, made-more}
+use Rattle.refinement.proofs.Lists.{refinement-holds, made-represents, made-more}
 use Rattle.posting.specs.Posting.{answerOf, Posts, rowOf, PostsRow}
 
 -- ---- from any account that stands for a ledger

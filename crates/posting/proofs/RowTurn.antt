@@ -1,11 +1,11 @@
 -- What holds of a row after its first i events: the pure part of `post_row`'s loop.
 use mathlib.Core.Path.{_≡_, refl, sym, ap, _∙_}
-use Prim.Native.Nat.{ℕ, suc, _+_, _≤_, _<_}
+use Prim.Native.Nat.{ℕ, _+_, _≤_, _<_}
 use native.Mathlib.Nat.{le-antisymm}
 use native.Mathlib.Numerals.{add-one}
 use native.Mathlib.Omega.{arith}
-use mathlib.Core.Bool.{true, false, cond}
-use mathlib.Core.List.{List, [], _∷_, _++_, append-assoc}
+use mathlib.Core.Bool.{true, false}
+use mathlib.Core.List.{List, [], _++_, append-assoc}
 use lib.ListN.{length, getD, set, take, drop, length-set, take-append-drop}
 use lib.Seq.{drop-cons, drop-length, take-suc-set, drop-set-lt}
 use lib.Dec.{ltb}
@@ -13,7 +13,7 @@ use Rattle.ledger.specs.declared.Event.{Event}
 use Rattle.account.specs.Step.{stepOf}
 use Rattle.account.specs.declared.Account.{Account}
 use Rattle.refinement.specs.Lists.{accountAfter, codesOf}
-use Rattle.posting.specs.Posting.{Row, rowOf, PostsRow}
+use Rattle.posting.specs.Posting.{rowOf, PostsRow}
 use Rattle.posting.proofs.Ledgers.{posts-row}
 
 -- a row of the events es, posted to the account a, with the lent buffer cs

@@ -1,9 +1,9 @@
 -- An account and a ledger that agree, and an event: what they have in common before it, and the same refusal.
 -- Assumes nothing.
-use Prim.Native.Nat.{ℕ, _+_, _*_, _≤_}
+use Prim.Native.Nat.{ℕ, _+_}
 use native.Mathlib.Omega.{arith}
 use mathlib.Core.Path.{_≡_, refl, ap, _∙_}
-use mathlib.Core.Bool.{Bool, true, false, cond, _||_}
+use mathlib.Core.Bool.{true, false, cond, _||_}
 use mathlib.Core.List.{_∷_}
 use lib.ListN.{length}
 use lib.Dec.{ltb, leb, eqb}

@@ -3,23 +3,21 @@
 use Prim.Native.Nat.{ℕ, suc, _+_, _*_, _≤_, _<_}
 use native.Mathlib.Omega.{arith}
 use mathlib.Core.Path.{_≡_, refl, ap, _∙_, sym, subst}
-use mathlib.Core.Bool.{Bool, true, false, cond, _&&_, _||_}
-use mathlib.Core.List.{List, _∷_}
-use lib.ListN.{length, getD, set, length-set}
-use lib.Dec.{leb, eqb}
+use mathlib.Core.Bool.{Bool, true, false, cond, _||_}
+use lib.ListN.{getD, length-set}
+use lib.Dec.{eqb}
 use lib.IntN.{pos, _-ℤ_}
 use borrow.Author.Tests.{eqb-true, leb-false}
 use Rattle.marks.proofs.Laws.{marked-length}
 use Rattle.terms.specs.declared.Terms.{Terms}
 use Rattle.ledger.specs.declared.Event.{Event}
-use Rattle.ledger.specs.Event.{isPay, isReverse, isCharge, isEstimate, isRead, isWarn, isMark}
 use Rattle.ledger.specs.Entries.{Entries, lastDay, paymentCount, usageDay}
 use Rattle.ledger.specs.Rules.{Ledger, refusals}
 use Rattle.ledger.specs.Sums.{standingCost}
 use Rattle.ledger.specs.Months.{chargesIn}
 use Rattle.ledger.specs.Ledger.{Effect, refusal, effectOf, joined}
 use Rattle.ledger.specs.Invariant.{Invariant}
-use Rattle.ledger.proofs.Cases.{decide, neither}
+use Rattle.ledger.proofs.Cases.{decide}
 use Rattle.moves.specs.Moves.{cellsBefore, move, totals}
 use Rattle.moves.specs.declared.Totals.{Totals}
 use Rattle.moves.specs.declared.Move.{Move}
@@ -27,7 +25,7 @@ use Rattle.account.specs.Record.{blankDay, noPayment}
 use Rattle.account.specs.Step.{cellsOf, withCells}
 use Rattle.account.specs.declared.Account.{Account}
 use Rattle.account.proofs.Written.{days-left, warned-left, payments-left, charges-left, marks-left}
-use Rattle.refinement.specs.Agree.{Agree, Sums, Bounds, recordedUsage, recordedPayment, recordedMarks, warnedOn}
+use Rattle.refinement.specs.Agree.{Agree, recordedUsage, recordedPayment, recordedMarks, warnedOn}
 use Rattle.refinement.proofs.Fields.{payments-same, payments-one}
 use Rattle.refinement.proofs.Keeps.{amounts-keep, charged-keep, held-keep, payments-stay, days-stay, marks-stay, warned-stay, charges-stay}
 use Rattle.refinement.proofs.Refusals.{Passes, takes}

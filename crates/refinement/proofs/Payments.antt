@@ -1,12 +1,12 @@
 -- Payments, reversals, credits and charges refine the ledger's.
 -- Assumes nothing.
-use Prim.Native.Nat.{ℕ, suc, _+_, _*_, _-_, _≤_, _<_}
+use Prim.Native.Nat.{ℕ, suc, _+_, _-_, _≤_, _<_}
 use native.Mathlib.Omega.{arith}
 use native.Mathlib.Nat.{mod-eq-of-lt}
 use mathlib.Core.Path.{_≡_, refl, sym, ap, _∙_}
 use mathlib.Core.Bool.{true, false, true≢false}
 use mathlib.Core.Logic.{inl, inr}
-use lib.ListN.{length, getD}
+use lib.ListN.{getD}
 use lib.Dec.{ltb, leb}
 use lib.IntN.{pos, _+ℤ_, _-ℤ_}
 use borrow.Author.Tests.{leb-false, le-leb, le-ltb}
@@ -17,7 +17,7 @@ use Rattle.ledger.specs.declared.Event.{Event}
 use Rattle.ledger.specs.Entries.{paymentCount, paidAmount, paidPart, reversed}
 use Rattle.ledger.specs.Rules.{Ledger}
 use Rattle.ledger.specs.Months.{monthOf}
-use Rattle.ledger.specs.Ledger.{effectOf, planPart, payEffect, reverseEffect, balanceEffect, refusal}
+use Rattle.ledger.specs.Ledger.{effectOf, planPart, payEffect, reverseEffect, balanceEffect}
 use Rattle.ledger.specs.Invariant.{Invariant}
 use Rattle.ledger.proofs.Cases.{decide}
 use Rattle.ledger.proofs.Money.{diff}
@@ -33,7 +33,7 @@ use Rattle.refinement.specs.Agree.{Agree, recordedPayment}
 use Rattle.refinement.proofs.Refusals.{Passes, pay-code, reverse-code, credit-code, charge-code}
 use Rattle.refinement.proofs.Keeps.{charges-set, payments-set, payments-reverse}
 use Rattle.refinement.proofs.Agreed.{Refines, refused-same, raised, lowered, facts}
-use Rattle.refinement.proofs.Cells.{Money, accepted}
+use Rattle.refinement.proofs.Cells.{accepted}
 
 module _ (a : Account) (l : Ledger) (e : Event) (g : Agree (a .terms) a l) (s : Invariant (a .terms) l) (h : Passes l e) where
   abbrev t : Terms

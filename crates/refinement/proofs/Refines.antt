@@ -18,7 +18,7 @@ use Rattle.ledger.specs.Months.{chargesIn}
 use Rattle.ledger.specs.Ledger.{opening, refusal, ledgerStep}
 use Rattle.ledger.specs.Invariant.{Invariant}
 use Rattle.ledger.proofs.Cases.{decide}
-use Rattle.moves.specs.Moves.{cellsBefore, earlyCode, bySort, moveOf, refusing}
+use Rattle.moves.specs.Moves.{cellsBefore, earlyCode, bySort, moveOf}
 use Rattle.moves.specs.declared.Move.{Move}
 use Rattle.moves.proofs.Arms as moves
 use Rattle.account.specs.Record.{fresh, blankDay, noPayment}

@@ -4,14 +4,14 @@ use Prim.Native.Nat.{ℕ}
 use mathlib.Core.Path.{_≡_}
 use mathlib.Core.Bool.{true, false, cond, not, _||_, or-false}
 use lib.Dec.{ltb, leb, eqb}
-use lib.IntN.{pos, _+ℤ_, _-ℤ_}
+use lib.IntN.{pos}
 use lib.Signed.{ltZ, leZ}
 use Rattle.terms.specs.declared.Terms.{Terms}
 use Rattle.ledger.specs.declared.Event.{Event}
 use Rattle.ledger.specs.Event.{inLimits}
 use Rattle.ledger.specs.Entries.{paymentCount, reversed, warned, usageDay, isBlank, isMetered, barred}
 use Rattle.ledger.specs.Rules.{Ledger, mayDefer, dayRefused, isFull, refusals, firstOf}
-use Rattle.ledger.specs.Ledger.{Effect, payEffect, reverseEffect, balanceEffect, serviceEffect, estimateEffect, readEffect, planEffect, effectOf, joined, answer, refusal, ledgerStep}
+use Rattle.ledger.specs.Ledger.{Effect, effectOf, joined, answer, refusal, ledgerStep}
 
 -- the event passes codes 2, 3 and 4
 pub record Passes (l : Ledger) (e : Event) : Type 0 where

@@ -1,17 +1,16 @@
 -- Warnings, marks, plans, disconnects and connects refine the ledger's.
 -- Assumes nothing.
-use Prim.Native.Nat.{ℕ, suc, _+_, _*_, _-_, _≤_, _<_}
+use Prim.Native.Nat.{ℕ, suc, _+_, _≤_, _<_}
 use native.Mathlib.Omega.{arith}
 use native.Mathlib.Nat.{add-zero, mod-eq-of-lt}
 use mathlib.Core.Path.{_≡_, refl, sym, ap, _∙_}
-use mathlib.Core.Bool.{Bool, true, false, cond, not, _&&_, _||_, true≢false, or-true}
+use mathlib.Core.Bool.{Bool, true, false, cond, not, _&&_, true≢false, or-true}
 use mathlib.Core.List.{[], _∷_}
-use lib.ListN.{getD}
 use lib.Dec.{ltb, leb, eqb}
 use lib.IntN.{ℤ, pos, negℤ, natAbs, _-ℤ_}
 use lib.Signed.{ltZ, leZ}
 use borrow.Author.Tests.{leb-true, ltb-true, le-leb, eqb-true, ne-eqb, eq-eqb}
-use Rattle.calendar.specs.Calendar.{opens, weekdayOn}
+use Rattle.calendar.specs.Calendar.{weekdayOn}
 use Rattle.calendar.proofs.Laws.{weekday-next}
 use Rattle.terms.specs.declared.Terms.{Terms}
 use Rattle.marks.specs.Marks.{isMissing, barringOn, latestWarning, dayBefore}
@@ -21,7 +20,7 @@ use Rattle.ledger.specs.declared.Event.{Event}
 use Rattle.ledger.specs.Event.{isWarn}
 use Rattle.ledger.specs.Entries.{Entries, any, warned, weather, weekday, covered, barred, business, weatherRecent}
 use Rattle.ledger.specs.Rules.{Ledger, mayDefer}
-use Rattle.ledger.specs.Ledger.{effectOf, serviceEffect, planEffect, deferred, refusal}
+use Rattle.ledger.specs.Ledger.{effectOf, serviceEffect, planEffect, deferred}
 use Rattle.ledger.specs.Invariant.{Invariant}
 use Rattle.ledger.proofs.Cases.{decide, both}
 use Rattle.ledger.proofs.Money.{diff, diff-eq, diff-zero, diff-lt, diff-ge, diff-low, diff-gap}

@@ -1,14 +1,14 @@
 -- Estimates and reads refine the ledger's.
 -- Assumes nothing.
-use Prim.Native.Nat.{ℕ, _+_, _*_, _≤_, _<_}
+use Prim.Native.Nat.{ℕ, _+_, _≤_, _<_}
 use native.Mathlib.Omega.{arith}
 use native.Mathlib.Nat.{mod-eq-of-lt}
 use mathlib.Core.Path.{_≡_, refl, sym, ap, _∙_, subst}
 use mathlib.Core.Bool.{Bool, true, false, _||_}
-use mathlib.Core.Logic.{_⊎_, inl, inr}
+use mathlib.Core.Logic.{inl, inr}
 use lib.ListN.{getD}
 use lib.Dec.{leb, eqb}
-use lib.IntN.{ℤ, pos, _+ℤ_, _-ℤ_}
+use lib.IntN.{ℤ, pos, _-ℤ_}
 use borrow.Author.Tests.{leb-false, not-true}
 use Rattle.terms.specs.declared.Terms.{Terms}
 use Rattle.ledger.specs.declared.Event.{Event}
@@ -32,7 +32,7 @@ use Rattle.refinement.proofs.Fields.{usage-estimated, usage-metered}
 use Rattle.refinement.proofs.Refusals.{Passes, estimate-code, read-code}
 use Rattle.refinement.proofs.Keeps.{days-set}
 use Rattle.refinement.proofs.Agreed.{Refines, refused-same, raised, lowered, facts, standing-is}
-use Rattle.refinement.proofs.Cells.{Money, accepted}
+use Rattle.refinement.proofs.Cells.{accepted}
 
 module _ (a : Account) (l : Ledger) (e : Event) (g : Agree (a .terms) a l) (s : Invariant (a .terms) l) (h : Passes l e) where
   abbrev t : Terms

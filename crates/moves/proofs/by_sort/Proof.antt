@@ -8,7 +8,6 @@ use Rattle.moves.proofs.Arms.{of-sort}
 use Rattle.moves.proofs.Early.{Early, early, no-other}
 use Rattle.moves.proofs.by_sort.Statement.{statement}
 use Rattle.moves.proofs.by_sort.Tie as tie
-use Rattle.moves.proofs.by_sort.Reads as reads
 
 -- a number that is none of the next six
 six : (n low : ℕ) → low ≤ n → (n ≡ low → ⊥) → (n ≡ low + 1 → ⊥) → (n ≡ low + 2 → ⊥) → (n ≡ low + 3 → ⊥) → (n ≡ low + 4 → ⊥) → (n ≡ low + 5 → ⊥) → low + 6 ≤ n

@@ -2,7 +2,7 @@
 -- Assumes nothing.
 use Prim.Native.Nat.{_-_}
 use mathlib.Core.Path.{_≡_, refl, _∙_}
-use mathlib.Core.List.{[], _∷_, _++_}
+use mathlib.Core.List.{_++_}
 use lib.ListN.{length, drop}
 use borrow.Author.Needs.{needs}
 use Rattle.scanner.specs.Scanner.{bytes, afterPrefix}
