@@ -2,7 +2,7 @@
 use Prim.Native.Nat.{ℕ, zero, suc, _+_, _-_, _≤_, _<_}
 use mathlib.Core.Path.{_≡_, refl, sym, ap, ap₂, _∙_}
 use mathlib.Core.Bool.{true, false}
-use mathlib.Core.List.{List, [], _∷_}
+use mathlib.Core.List.{List, [], _∷_, _++_}
 use native.Mathlib.Omega.{arith}
 use lib.ListN.{length, drop, length-drop}
 use lib.Dec.{eqb}
@@ -11,6 +11,7 @@ use Rattle.terms.specs.Terms.{validTerms}
 use Rattle.terms.specs.declared.Terms.{Terms}
 use Rattle.ledger.specs.Rules.{Ledger}
 use Rattle.ledger.specs.Ledger.{opening, ledgerStep}
+use Rattle.ledger.specs.Sums.{standingCost}
 use Rattle.ledger.proofs.Cases.{decide}
 use Rattle.account.specs.Record.{fresh}
 use Rattle.account.specs.Step.{stepOf, openOf}

@@ -1,6 +1,6 @@
 -- `transcript::put_events` meets its contract. Assumes nothing.
 use Prim.Native.Nat.{_-_}
-use mathlib.Core.Path.{_∙_}
+use mathlib.Core.Path.{_≡_, _∙_}
 use native.Mathlib.Omega.{arith}
 use lib.ListN.{length}
 use borrow.Author.Needs.{needs}
