@@ -105,6 +105,7 @@ changed f e = record {
   to = f To (e .to);
 }
 
+-- the fields, told apart by number
 abbrev pub fieldIndex : Field → ℕ
 fieldIndex Amount = 0
 fieldIndex Number = 1
@@ -114,6 +115,7 @@ fieldIndex Wh = 4
 fieldIndex From = 5
 fieldIndex To = 6
 
+-- the event with a number in one field
 abbrev pub stored : Field → ℕ → Event → Event
 stored field n e = changed (λ (other : Field) (old : ℕ). cond (eqb (fieldIndex field) (fieldIndex other)) n old) e
 

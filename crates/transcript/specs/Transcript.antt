@@ -21,14 +21,16 @@ unfoldable pub eventLine : ℕ → ℕ → ℕ → ℤ → ℕ → List ℕ
 eventLine n code value balance plan =
     bytes "n=" ++ (decimal n
     ++ (bytes " code=" ++ (decimal code
-    ++ (bytes " value=" ++ (decimal value ++ (bytes " balance=" ++ (signed balance ++ (bytes " plan=" ++ (decimal plan ++ feed ∷ [])))))))))
+    ++ (bytes " value=" ++ (decimal value
+    ++ (bytes " balance=" ++ (signed balance
+    ++ (bytes " plan=" ++ (decimal plan ++ feed ∷ [])))))))))
 
 -- "a last line with the settled amount and the cost of the standing estimates"
 unfoldable pub lastLine : ℤ → ℕ → List ℕ
 lastLine sum cost = bytes "settled=" ++ (signed sum ++ (bytes " estimates=" ++ (decimal cost ++ feed ∷ [])))
 
--- the lines of events with their ordinals, by what each answers and by the state after it, and the last line: "Code 15 prints its line and no more is read, then
--- the last line."
+-- The lines of events with their ordinals, by what each is answered and by the state after it, and the last line. "Code 15 prints its line
+-- and no more is read, then the last line."
 abbrev pub linesFold : {S : Type 0} → (S → Event → S) → (S → Event → ℕ) → (S → Event → ℕ) → (ℕ → ℕ → ℕ → S → List ℕ) → (S → List ℕ) → Fold (S × ℕ) (List ℕ)
 linesFold {S} step code value line closing = record {
   step = λ (x : S × ℕ) (e : Event). (step (x .0) e, x .1 + 1);
@@ -37,7 +39,7 @@ linesFold {S} step code value line closing = record {
   end = λ (x : S × ℕ). closing (x .0);
 }
 
--- those of a ledger
+-- the ledger's
 abbrev pub ledgerLine : ℕ → ℕ → ℕ → Ledger → List ℕ
 ledgerLine n code value l = eventLine n code value (l .balance) (l .plan)
 
