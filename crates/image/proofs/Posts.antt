@@ -2,6 +2,7 @@
 use Prim.Native.Nat.{ℕ}
 use mathlib.Core.Path.{_≡_, ap, _∙_}
 use mathlib.Core.Bool.{false}
+use Rattle.terms.specs.Terms.{zeroTerms}
 use Rattle.ledger.specs.declared.Event.{Event}
 use Rattle.ledger.specs.Months.{noSummary}
 use Rattle.ledger.proofs.Cases.{decide}
@@ -10,7 +11,7 @@ use Rattle.account.specs.Step.{stepOf}
 use Rattle.account.specs.declared.Account.{Account}
 use Rattle.moves.proofs.Ways.{yes, no}
 use Rattle.image.specs.declared.Image.{Image}
-use Rattle.image.specs.Image.{isImage, noTerms, accountOf, imageOf, imageAfter, postedOf, summaryIn, CallsAgree}
+use Rattle.image.specs.Image.{isImage, accountOf, imageOf, imageAfter, postedOf, summaryIn, CallsAgree}
 use Rattle.image.proofs.Conversions.{inverse-holds}
 use Rattle.image.proofs.Refused.{leaves, no-account, no-summary}
 
@@ -36,7 +37,7 @@ module _ (e : Event) where
 summary-is : (m : ℕ) (i : Image) → isImage i ≡ false → summaryIn i m ≡ noSummary 1
 unfolding summaryIn accountOf
 summary-is m i f =
-    let e : accountOf i ≡ fresh noTerms = simp f in
+    let e : accountOf i ≡ fresh zeroTerms = simp f in
     cc (no-summary m)
 
 pub calls-agree : CallsAgree

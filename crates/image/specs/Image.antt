@@ -4,6 +4,7 @@ use mathlib.Core.Path.{_≡_}
 use mathlib.Core.Bool.{Bool, true, false, cond, _&&_}
 use mathlib.Core.List.{List, [], _∷_, map}
 use lib.Dec.{leb, eqb}
+use Rattle.terms.specs.Terms.{zeroTerms}
 use Rattle.terms.specs.declared.Terms.{Terms}
 use Rattle.terms.specs.Terms.{termsCode}
 use Rattle.ledger.specs.declared.Event.{Event}
@@ -90,10 +91,6 @@ every f (x ∷ l) = f x && every f l
 unfoldable pub isImage : Image → Bool
 isImage i = leb (i .totals .on) 1 && (eqb (i .spare) 0 && (every isDayImage (i .days) && every isPaymentImage (i .payments)))
 
--- terms outside their limits
-abbrev pub noTerms : Terms
-noTerms = record { opened = record { year = 0; month = 0; day = 0 }; price = 0; connect = 0; cutoff = 0; share = 0 }
-
 unfoldable pub imageOf : Account → Image
 imageOf a = record {
   totals = totalsImage (a .totals);
@@ -119,7 +116,7 @@ accountOf i =
       payments = map paymentOf (i .payments);
       charges = i .charges;
     })
-    (fresh noTerms)
+    (fresh zeroTerms)
 
 -- and stay as they are
 unfoldable pub imageAfter : Image → Account → Image

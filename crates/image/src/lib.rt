@@ -13,7 +13,8 @@ ghost use mathlib.Core.Path.{_≡_};
 ghost use mathlib.Core.Bool.{cond};
 ghost use mathlib.Core.List.{map};
 ghost use Rattle.image.specs.Image.{usageImage, usageOf, isDayImage, dayImage, dayOf, isPaymentImage, paymentImage, paymentOf};
-ghost use Rattle.image.specs.Image.{totalsImage, totalsOf, every, isImage, noTerms, accountOf, imageOf, imageAfter};
+ghost use Rattle.terms.specs.Terms.{zeroTerms};
+ghost use Rattle.image.specs.Image.{totalsImage, totalsOf, every, isImage, accountOf, imageOf, imageAfter};
 ghost use Rattle.image.specs.Image.{openedOf, postedOf, readingsOf, summaryIn, Inverse, CallsAgree};
 
 // A usage day: state 0 blank, 1 estimated, 2 metered. A blank day has 0 Wh and costs 0.
@@ -306,7 +307,7 @@ fn is_image(i: Image) -> bool
 }
 
 fn no_terms() -> Terms
-    ensures { λ r. ⌜ r ≡ noTerms ⌝ }
+    ensures { λ r. ⌜ r ≡ zeroTerms ⌝ }
 {
     Terms {
         opened: Date {

@@ -1,10 +1,10 @@
 // `prepay`: an event text on standard input, its transcript on standard output.
-// It uses the transcript and the kit's reading and writing. A text of more than 65,536 bytes fills the buffer, which is one byte longer.
+// It uses the transcript and the kit's reading and writing. A text that is too long fills the buffer, which is one byte longer.
 use libc::STDIN_FILENO;
 use libc::STDOUT_FILENO;
 
 fn main() {
-    let mut text = [0u8; 65537];
+    let mut text = [0u8; text::LONGEST + 1];
     let count = io::read_full(STDIN_FILENO, &mut text);
     let mut out = [0u8; 8192];
     let mut progress = transcript::begin(&text[..count]);

@@ -21,7 +21,7 @@ ghost use Rattle.calendar.specs.Calendar.{monthCount};
 ghost use Rattle.statement.specs.Statement.{twoFields, paymentsPart, usagePart, chargesPart, summaryLine, paymentsRoom, usageRoom, chargesRoom, summaryRoom, statementRoom, monthLines, eventsOf, EventsSuffice, allMonths, WholeStatement};
 
 // A buffer that holds any statement.
-const STATEMENT_ROOM: usize = 8192;
+pub const STATEMENT_ROOM: usize = 8192;
 
 // ---- one line
 

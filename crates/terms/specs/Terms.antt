@@ -31,6 +31,10 @@ validTerms t =
     && ((leb (t .cutoff) maxCutoff && leb (t .cutoff) (t .connect))
     && leb (t .share) maxShare)))
 
+-- terms of zeros, which are outside their limits
+abbrev pub zeroTerms : Terms
+zeroTerms = record { opened = record { year = 0; month = 0; day = 0 }; price = 0; connect = 0; cutoff = 0; share = 0 }
+
 -- "1: terms outside their limits"; 0 is within them.
 unfoldable pub termsCode : Terms → ℕ
 termsCode t = cond (validTerms t) 0 1

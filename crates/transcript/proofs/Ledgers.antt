@@ -7,7 +7,7 @@ use native.Mathlib.Omega.{arith}
 use lib.ListN.{length, drop, length-drop}
 use lib.Dec.{eqb}
 use borrow.Author.Tests.{lt-ltb, le-ltb, eqb-true, eqb-false}
-use Rattle.terms.specs.Terms.{validTerms}
+use Rattle.terms.specs.Terms.{validTerms, zeroTerms}
 use Rattle.terms.specs.declared.Terms.{Terms}
 use Rattle.ledger.specs.Rules.{Ledger}
 use Rattle.ledger.specs.Ledger.{opening, ledgerStep}
@@ -24,7 +24,7 @@ use Rattle.scanner.specs.Scanner.{got, broken}
 use Rattle.text.specs.Text.{readTerms, readEvent}
 use Rattle.transcript.specs.Events.{foldIn, foldEvents}
 use Rattle.transcript.specs.Transcript.{ledgerLine, ledgerClosing, ledgerLines, termsLine, byTerms, allLines, transcript}
-use Rattle.transcript.specs.Pieces.{zeroTerms, startOf, begunOf, Begun}
+use Rattle.transcript.specs.Pieces.{startOf, begunOf, Begun}
 use Rattle.transcript.specs.declared.Progress.{Progress}
 use Rattle.transcript.proofs.Whole.{begun, events-left, refusal-left}
 use Rattle.transcript.proofs.Terms.{valid, refused, by-terms}

@@ -5,6 +5,7 @@ use mathlib.Core.Bool.{Bool, true, false, cond, not, _&&_}
 use mathlib.Core.List.{List, [], _++_}
 use lib.ListN.{length, take, drop}
 use lib.Dec.{eqb, leb, ltb}
+use Rattle.terms.specs.Terms.{zeroTerms}
 use Rattle.terms.specs.declared.Terms.{Terms}
 use Rattle.account.specs.Step.{stepOf, openOf}
 use Rattle.account.specs.declared.Account.{Account}
@@ -95,10 +96,6 @@ pub record Piece (s : List ℕ) (p : Progress) (before after : List ℕ) (q : Pr
       → (p .code ≡ 0) × (p .at < q .at) × (q .at ≤ length s) × (length before < q .length + pieceRoom) × (q .length ≤ 9 * q .at)
 
 -- ---- from the first piece to the last
-
--- no terms: what a text with malformed ones opens
-abbrev pub zeroTerms : Terms
-zeroTerms = record { opened = record { year = 0; month = 0; day = 0 }; price = 0; connect = 0; cutoff = 0; share = 0 }
 
 abbrev pub startOf : Terms → ℕ → ℕ → Progress
 startOf t at code = progressOf (openOf t .account) at 0 code 0 false

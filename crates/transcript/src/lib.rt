@@ -19,7 +19,8 @@ ghost use lib.ListN.{length};
 ghost use Rattle.printing.specs.Printing.{Wrote};
 ghost use Rattle.transcript.specs.Transcript.{WholeTranscript};
 ghost use Rattle.transcript.specs.Work.{accountLine, accountClosing};
-ghost use Rattle.transcript.specs.Pieces.{eventRoom, lastRoom, pieceRoom, zeroTerms, startOf, Begun, Piece};
+ghost use Rattle.terms.specs.Terms.{zeroTerms};
+ghost use Rattle.transcript.specs.Pieces.{eventRoom, lastRoom, pieceRoom, startOf, Begun, Piece};
 ghost use Rattle.transcript.specs.Counts.{CountsSuffice};
 
 // A buffer with room for an event's line and the last line; one that holds any transcript.
