@@ -1,4 +1,4 @@
--- The cells of a move, withCells into the record. Assumes nothing.
+-- The cells of a move, written into the record. Assumes nothing.
 use mathlib.Core.Path.{_≡_, refl, ap, _∙_}
 use Prim.Native.Nat.{ℕ}
 use native.Mathlib.Nat.{mod-lt}
@@ -18,7 +18,7 @@ use Rattle.account.specs.Step.{numberAt, usageAt, dayAt, cellsOf, withCe
 use Rattle.account.specs.declared.Account.{Account}
 
 module _ (a : Account) (e : Event) where
-  -- ---- a cell as it is, withCells back
+  -- ---- a cell as it is, written back
 
   pub days-left : set (a .days) (usageAt e) (getD (a .days) (usageAt e) blankDay) ≡ a .days
   days-left = set-getD (a .days) (usageAt e) blankDay
@@ -49,7 +49,7 @@ module _ (a : Account) (e : Event) where
   unfolding cellsBefore
   left k = λ i. record { terms = a .terms; totals = a .totals; days = days-left i; marks = marks-left i; warned = warned-left i; payments = payments-left i; charges = charges-left i }
 
-  -- where it is refused, writing it back changes nothing: so it may be withCells back whatever its code
+  -- where it is refused, writing it back changes nothing: so it may be written back whatever its code
   pub written-always : record { account = withCells a e m; code = m .code; value = m .value } ≡ stepOf a e
   unfolding stepOf
   written-always = decide (eqb (m .code) 0)

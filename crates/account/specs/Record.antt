@@ -6,8 +6,7 @@ use Rattle.calendar.specs.Calendar.{dayCount}
 use Rattle.terms.specs.declared.Terms.{Terms}
 use Rattle.ledger.specs.Rules.{maxPayments}
 use Rattle.moves.specs.Moves.{chargePlaces}
-use Rattle.moves.specs.declared.Usage.{Usage}
-use Rattle.moves.specs.declared.Usage.the-variants.{Blank, Estimated, Metered}
+use Rattle.moves.specs.declared.Usage.the-variants.{Blank}
 use Rattle.moves.specs.declared.Day.{Day}
 use Rattle.moves.specs.declared.Payment.{Payment}
 use Rattle.account.specs.declared.Account.{Account}
@@ -29,9 +28,3 @@ fresh t = record {
   payments = replicate maxPayments noPayment;
   charges = replicate chargePlaces 0;
 }
-
--- the cost of the estimate that stands on a day
-abbrev pub costHeld : Usage → ℕ
-costHeld Blank = 0
-costHeld (Estimated wh cost) = cost
-costHeld (Metered wh cost) = 0

@@ -1,4 +1,4 @@
--- The step: the cells that an event may touch, moved, and withCells back into the record.
+-- The step: the cells that an event may touch, moved, and written back into the record.
 use Prim.Native.Nat.{ℕ, _%_}
 use mathlib.Core.Path.{_≡_}
 use mathlib.Core.Bool.{cond}
@@ -38,7 +38,7 @@ dayAt e = e .day % dayCount
 abbrev pub cellsOf : Account → Event → Move
 cellsOf a e = cellsBefore (a .totals) (getD (a .payments) (numberAt e) noPayment) (getD (a .days) (usageAt e) blankDay) (a .charges) (a .warned) e
 
--- the cells withCells back
+-- the cells written back
 abbrev pub withCells : Account → Event → Move → Account
 withCells a e m = record {
   terms = a .terms;
@@ -50,7 +50,7 @@ withCells a e m = record {
   charges = set (a .charges) (m .place) (m .sum);
 }
 
--- refused, the account is as it was; else the cells are withCells back
+-- refused, the account is as it was; else the cells are written back
 abbrev pub posted : Account → Event → Move → Posted
 posted a e m = record { account = cond (eqb (m .code) 0) (withCells a e m) a; code = m .code; value = m .value }
 

@@ -15,7 +15,7 @@ ghost use mathlib.Core.Path.{_≡_};
 ghost use Rattle.account.specs.Step.{stepOf, IsOpened};
 ghost use Rattle.account.specs.Record.{fresh};
 
-pub type Days = [Day; DAY_COUNT as usize];
+pub type UsageDays = [Day; DAY_COUNT as usize];
 
 pub type Payments = [Payment; MAX_PAYMENTS as usize];
 
@@ -23,7 +23,7 @@ pub type Payments = [Payment; MAX_PAYMENTS as usize];
 pub struct Account {
     pub terms: Terms,
     pub totals: Totals,
-    pub days: Days,
+    pub days: UsageDays,
     // one bit a mark kind
     pub marks: DayBytes,
     // 1 on the days of accepted warnings

@@ -116,7 +116,7 @@ fn days_after(d: Date) -> u32
     month_after(12 * (d.year - 2000) + (d.month - 1)) + (d.day - 1)
 }
 
-fn is_reached(d: Date) -> bool
+fn in_reach(d: Date) -> bool
     ensures { λ r. ⌜ r ≡ inReach d ⌝ }
 {
     if d.year < 2000 {
@@ -146,7 +146,7 @@ impl Date {
     pub fn next(self) -> Date
         ensures { λ r. ⌜ r ≡ nextAnswer self ⌝ }
     {
-        if !is_reached(self) {
+        if !in_reach(self) {
             return self;
         }
         if self.day < month_length(self.year, self.month) {
@@ -174,7 +174,7 @@ impl Date {
     pub fn weekday(self) -> u32
         ensures { λ r. ⌜ r ≡ weekdayAnswer self ⌝ }
     {
-        if !is_reached(self) {
+        if !in_reach(self) {
             return 7;
         }
         (days_after(self) + 5) % 7
@@ -289,7 +289,7 @@ pub fn day_of(opened: Date, d: Date) -> Numbered
     if !can_open(opened) {
         return Numbered::Outside;
     }
-    if !is_reached(d) {
+    if !in_reach(d) {
         return Numbered::Outside;
     }
     let first = days_after(opened);

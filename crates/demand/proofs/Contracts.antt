@@ -36,7 +36,7 @@ use Rattle.readings.proofs.plan as plan
 use Rattle.readings.proofs.service as service
 use Rattle.readings.proofs.settled as settled
 use Rattle.readings.proofs.estimates as estimates
-use Rattle.demand.specs.Calls.{Readings, Seen, Reads, Called, RunsFrom}
+use Rattle.demand.specs.Calls.{Readings, Seen, ShowsReadings, Called, RunsFrom}
 use Rattle.demand.specs.Demand3.{shows, CallsHold}
 use Rattle.demand.proofs.Lists.{demand-3}
 
@@ -129,8 +129,8 @@ module _ {M : Type 1} (𝓤 : URA M) (H : Heap 𝓤) (A : Atoms 𝓤) (at-mem : 
   -- ---- a list of calls, by the contracts
 
   -- the five readings v
-  abbrev ReadsSay : Totals → Readings → SProp 𝓤
-  ReadsSay s v = sep 𝓤 (BalanceSays s (v .balance)) (sep 𝓤 (PlanSays s (v .plan)) (sep 𝓤 (ServiceSays s (v .on)) (sep 𝓤 (SettledSays s (v .settled)) (EstimatesSays s (v .standing)))))
+  abbrev ReadingsSay : Totals → Readings → SProp 𝓤
+  ReadingsSay s v = sep 𝓤 (BalanceSays s (v .balance)) (sep 𝓤 (PlanSays s (v .plan)) (sep 𝓤 (ServiceSays s (v .on)) (sep 𝓤 (SettledSays s (v .settled)) (EstimatesSays s (v .standing)))))
 
   -- the call that gets account a leaves account b and hands back r
   abbrev CallSays : Account → Call → Back → Account → SProp 𝓤
@@ -146,7 +146,7 @@ module _ {M : Type 1} (𝓤 : URA M) (H : Heap 𝓤) (A : Atoms 𝓤) (at-mem : 
   CallsSay a [] [] = emp 𝓤
   CallsSay a [] (v ∷ vs) = never 𝓤
   CallsSay a (c ∷ cs) [] = never 𝓤
-  CallsSay a (c ∷ cs) (v ∷ vs) = ex 𝓤 (λ (b : Account). sep 𝓤 (CallSays a c (v .back) b) (sep 𝓤 (ReadsSay (b .totals) (v .after)) (CallsSay b cs vs)))
+  CallsSay a (c ∷ cs) (v ∷ vs) = ex 𝓤 (λ (b : Account). sep 𝓤 (CallSays a c (v .back) b) (sep 𝓤 (ReadingsSay (b .totals) (v .after)) (CallsSay b cs vs)))
 
   -- ---- it runs as demand 3's relation says
 
@@ -155,13 +155,13 @@ module _ {M : Type 1} (𝓤 : URA M) (H : Heap 𝓤) (A : Atoms 𝓤) (at-mem : 
   both {P} {Q} φ ψ f g =
       fact-use 𝓤 φ (via 𝓤 P (fst∗ 𝓤 P Q) f) (λ x. fact-use 𝓤 ψ (via 𝓤 Q (snd∗ 𝓤 P Q) g) (λ y. factI 𝓤 (φ × ψ) (sep 𝓤 P Q) (x, y)))
 
-  reads : (s : Totals) (v : Readings) → ent 𝓤 (ReadsSay s v) (fact 𝓤 (Reads s v))
+  reads : (s : Totals) (v : Readings) → ent 𝓤 (ReadingsSay s v) (fact 𝓤 (ShowsReadings s v))
   reads s v =
       via 𝓤 _ (both (IsBalance s (v .balance)) _ (balance-promises s (v .balance))
       (both (IsPlan s (v .plan)) _ (plan-promises s (v .plan))
       (both (IsService s (v .on)) _ (service-promises s (v .on))
       (both (IsSettled s (v .settled)) (IsEstimates s (v .standing)) (settled-promises s (v .settled)) (estimates-promises s (v .standing))))))
-      (fact-mono 𝓤 _ (Reads s v) (λ q. record { balance = q .0; plan = q .1 .0; on = q .1 .1 .0; settled = q .1 .1 .1 .0; standing = q .1 .1 .1 .1 }))
+      (fact-mono 𝓤 _ (ShowsReadings s v) (λ q. record { balance = q .0; plan = q .1 .0; on = q .1 .1 .0; settled = q .1 .1 .1 .0; standing = q .1 .1 .1 .1 }))
 
   called : (a : Account) (c : Call) (r : Back) (b : Account) → ent 𝓤 (CallSays a c r b) (fact 𝓤 (Called a c r b))
   called a (single e) r b =
@@ -180,15 +180,15 @@ module _ {M : Type 1} (𝓤 : URA M) (H : Heap 𝓤) (A : Atoms 𝓤) (at-mem : 
   runs (c ∷ cs) [] a = neverE 𝓤 _
   runs (c ∷ cs) (v ∷ vs) a =
       exE 𝓤 _ (λ b.
-      via 𝓤 _ (both (Called a c (v .back) b) (Reads (b .totals) (v .after) × RunsFrom b cs vs) (called a c (v .back) b) (both (Reads (b .totals) (v .after)) (RunsFrom b cs vs) (reads (b .totals) (v .after)) (runs cs vs b)))
+      via 𝓤 _ (both (Called a c (v .back) b) (ShowsReadings (b .totals) (v .after) × RunsFrom b cs vs) (called a c (v .back) b) (both (ShowsReadings (b .totals) (v .after)) (RunsFrom b cs vs) (reads (b .totals) (v .after)) (runs cs vs b)))
       (fact-mono 𝓤 _ (RunsFrom a (c ∷ cs) (v ∷ vs)) (λ q. (b, q .0, q .1 .0, q .1 .1))))
 
   -- Demand 3: whatever the contracts leave to be seen of a list of calls, where `account::open` answered 0, is as demand 3 claims.
   pub contracts-hold : (t : Terms) (first : Readings) (cs : List Call) (vs : List Seen)
-      → ent 𝓤 (ex 𝓤 (λ (o : Opened). sep 𝓤 (OpenSays t o) (sep 𝓤 (fact 𝓤 (o .code ≡ 0)) (sep 𝓤 (ReadsSay (o .account .totals) first) (CallsSay (o .account) cs vs)))))
+      → ent 𝓤 (ex 𝓤 (λ (o : Opened). sep 𝓤 (OpenSays t o) (sep 𝓤 (fact 𝓤 (o .code ≡ 0)) (sep 𝓤 (ReadingsSay (o .account .totals) first) (CallsSay (o .account) cs vs)))))
       (fact 𝓤 ((first ≡ shows t opening) × CallsHold t opening cs vs))
   contracts-hold t first cs vs =
       exE 𝓤 _ (λ o.
       via 𝓤 _ (both (IsOpened t o) _ (open-promises t o)
-      (both (o .code ≡ 0) _ (id⊢ 𝓤 _) (both (Reads (o .account .totals) first) (RunsFrom (o .account) cs vs) (reads (o .account .totals) first) (runs cs vs (o .account)))))
+      (both (o .code ≡ 0) _ (id⊢ 𝓤 _) (both (ShowsReadings (o .account .totals) first) (RunsFrom (o .account) cs vs) (reads (o .account .totals) first) (runs cs vs (o .account)))))
       (fact-mono 𝓤 _ ((first ≡ shows t opening) × CallsHold t opening cs vs) (λ q. demand-3 t .every first cs vs (o, q .0, q .1 .0, q .1 .1 .0, q .1 .1 .1))))

@@ -33,7 +33,7 @@ use Rattle.posting.specs.Posting.{answerOf, rowOf}
 use Rattle.posting.proofs.Ledgers.{answer-back, row-back, row-account, posts, posts-row}
 use Rattle.readings.specs.Readings.{balanceOf, settledOf}
 use Rattle.readings.proofs.After.{balance-reading, settled-reading, is-balance, is-plan, is-service, is-settled, is-estimates}
-use Rattle.demand.specs.Calls.{Readings, Seen, Reads, Called, RunsFrom}
+use Rattle.demand.specs.Calls.{Readings, Seen, ShowsReadings, Called, RunsFrom}
 use Rattle.demand.specs.Demand3.{shows, codesIn, CallHolds, CallsHold, Demand3}
 
 -- ---- one call, from an account that stands for a ledger
@@ -56,7 +56,7 @@ module _ (t : Terms) (a : Account) (l : Ledger) (s : Represents t a l) where
   }
 
   -- what the readings of the account show
-  shows-is : (r : Readings) → Reads (a .totals) r → r ≡ shows t l
+  shows-is : (r : Readings) → ShowsReadings (a .totals) r → r ≡ shows t l
   shows-is r q =
       let balance : r .balance ≡ l .balance = q .balance .totals ∙ balance-reading t a l s in
       let plan : r .plan ≡ l .plan = q .plan .totals ∙ s .agree .sums .plan in
@@ -127,7 +127,7 @@ calls-hold t (c ∷ cs) (v ∷ vs) a l s (b, p, r, q) =
 read : Account → Readings
 read a = record { balance = balanceOf (a .totals); plan = a .totals .plan; on = a .totals .on; settled = settledOf (a .totals); standing = a .totals .standing }
 
-reads : (a : Account) → Reads (a .totals) (read a)
+reads : (a : Account) → ShowsReadings (a .totals) (read a)
 unfolding read
 reads a = record {
   balance = is-balance (a .totals) _ refl;

@@ -28,7 +28,7 @@ pub record Seen : Type 0 where
   pub after : Readings
 
 -- by the promises of the reading calls, of an account with these totals
-pub record Reads (s : Totals) (r : Readings) : Type 0 where
+pub record ShowsReadings (s : Totals) (r : Readings) : Type 0 where
   pub balance : IsBalance s (r .balance)
   pub plan : IsPlan s (r .plan)
   pub on : IsService s (r .on)
@@ -45,8 +45,8 @@ abbrev pub RunsFrom : Account → List Call → List Seen → Type 0
 RunsFrom a [] [] = Unit
 RunsFrom a [] (v ∷ vs) = ⊥
 RunsFrom a (c ∷ cs) [] = ⊥
-RunsFrom a (c ∷ cs) (v ∷ vs) = (b : Account) × Called a c (v .back) b × Reads (b .totals) (v .after) × RunsFrom b cs vs
+RunsFrom a (c ∷ cs) (v ∷ vs) = (b : Account) × Called a c (v .back) b × ShowsReadings (b .totals) (v .after) × RunsFrom b cs vs
 
 -- "the first a fresh one": by the promise of `account::open`, where it answers 0. Its readings are first. Else "no account made".
 abbrev pub Runs : Terms → Readings → List Call → List Seen → Type 0
-Runs t first cs vs = (o : Opened) × IsOpened t o × (o .code ≡ 0) × Reads (o .account .totals) first × RunsFrom (o .account) cs vs
+Runs t first cs vs = (o : Opened) × IsOpened t o × (o .code ≡ 0) × ShowsReadings (o .account .totals) first × RunsFrom (o .account) cs vs

@@ -63,21 +63,21 @@ markDaysInLimits e = leb (e .day) (e .from) && (leb (e .from) (e .to) && leb (e 
 abbrev pub chargeKindCount : ℕ
 chargeKindCount = 5
 
-abbrev pub chargeKinds : ℕ → Bool
-chargeKinds k = within 1 chargeKindCount k
+abbrev pub isChargeKind : ℕ → Bool
+isChargeKind k = within 1 chargeKindCount k
 
-abbrev pub markKinds : ℕ → Bool
-markKinds k = within 1 3 k
+abbrev pub isMarkKind : ℕ → Bool
+isMarkKind k = within 1 3 k
 
-abbrev pub planKinds : ℕ → Bool
-planKinds k = within 1 2 k
+abbrev pub isPlanKind : ℕ → Bool
+isPlanKind k = within 1 2 k
 
 -- What code 3 asks of an event: "event sort, amount, wh, kind, mark days". A reverse's number and a usage day have no limit under 3.
 unfoldable pub inLimits : Event → Bool
 inLimits e =
     cond (isPay e || isCredit e) (amountInLimits e)
-    (cond (isCharge e) (chargeKinds (e .kind) && amountInLimits e)
+    (cond (isCharge e) (isChargeKind (e .kind) && amountInLimits e)
     (cond (isEstimate e || isRead e) (whInLimits e)
-    (cond (isMark e) (markKinds (e .kind) && markDaysInLimits e)
-    (cond (isPlan e) (planKinds (e .kind))
+    (cond (isMark e) (isMarkKind (e .kind) && markDaysInLimits e)
+    (cond (isPlan e) (isPlanKind (e .kind))
     (isReverse e || isWarn e || isDisconnect e || isConnect e)))))

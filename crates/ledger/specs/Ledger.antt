@@ -85,11 +85,11 @@ effectOf t l e =
 
 -- "the event joins L, and B, R and service move as above"
 abbrev pub joined : Ledger → Event → Effect → Ledger
-joined l e m = record {
-  list = record { event = e; part = m .part } ∷ l .list;
-  balance = m .balance;
-  plan = m .plan;
-  on = m .on;
+joined l e x = record {
+  list = record { event = e; part = x .part } ∷ l .list;
+  balance = x .balance;
+  plan = x .plan;
+  on = x .on;
 }
 
 abbrev pub answer : ℕ → ℕ → Answer

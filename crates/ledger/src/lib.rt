@@ -21,7 +21,7 @@ pub struct Event {
 // The largest amount, in cents, and the largest reading.
 pub const MAX_AMOUNT: u32 = 10000000;
 
-pub const CHARGE_KINDS: u32 = 5;
+pub const CHARGE_KIND_COUNT: u32 = 5;
 
 pub const MAX_WH: u32 = 9999999;
 

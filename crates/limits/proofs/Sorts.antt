@@ -7,7 +7,7 @@ use Prim.Native.Nat.{ℕ, _+_, _≤_, _<_}
 use native.Mathlib.Omega.{arith}
 use native.Mathlib.Nat.{eq-or-lt-of-le}
 use borrow.Author.Tests.{ne-eqb}
-use Rattle.ledger.specs.Event.{inLimits, amountInLimits, whInLimits, markDaysInLimits, chargeKinds, markKinds, planKinds}
+use Rattle.ledger.specs.Event.{inLimits, amountInLimits, whInLimits, markDaysInLimits, isChargeKind, isMarkKind, isPlanKind}
 use Rattle.ledger.specs.declared.Event.{Event}
 
 -- a number of a range of two is one of them
@@ -19,7 +19,7 @@ unfolding inLimits
 amounts e (inl h) = rw h
 amounts e (inr h) = rw h
 
-pub charges : (e : Event) → e .sort ≡ 4 → inLimits e ≡ (chargeKinds (e .kind) && amountInLimits e)
+pub charges : (e : Event) → e .sort ≡ 4 → inLimits e ≡ (isChargeKind (e .kind) && amountInLimits e)
 unfolding inLimits
 charges e h = rw h
 
@@ -28,11 +28,11 @@ unfolding inLimits
 usages e (inl h) = rw h
 usages e (inr h) = rw h
 
-pub marks : (e : Event) → e .sort ≡ 8 → inLimits e ≡ (markKinds (e .kind) && markDaysInLimits e)
+pub marks : (e : Event) → e .sort ≡ 8 → inLimits e ≡ (isMarkKind (e .kind) && markDaysInLimits e)
 unfolding inLimits
 marks e h = rw h
 
-pub plans : (e : Event) → e .sort ≡ 9 → inLimits e ≡ planKinds (e .kind)
+pub plans : (e : Event) → e .sort ≡ 9 → inLimits e ≡ isPlanKind (e .kind)
 unfolding inLimits
 plans e h = rw h
 

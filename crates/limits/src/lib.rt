@@ -6,7 +6,7 @@ ghost use mathlib.Core.Bool.{cond, _&&_};
 ghost use lib.Dec.{leb};
 ghost use Rattle.calendar.specs.Calendar.{finalDay};
 ghost use Rattle.terms.specs.Terms.{within};
-ghost use Rattle.ledger.specs.Event.{maxAmount, maxWh, inLimits, chargeKinds, markKinds, planKinds};
+ghost use Rattle.ledger.specs.Event.{maxAmount, maxWh, inLimits, isChargeKind, isMarkKind, isPlanKind};
 
 fn amount_code(amount: u32) -> u8
     ensures { λ r. ⌜ r ≡ cond (within 1 maxAmount amount) 0 3 ⌝ }
@@ -30,7 +30,7 @@ fn wh_code(wh: u32) -> u8
 }
 
 fn charge_code(kind: u32, amount: u32) -> u8
-    ensures { λ r. ⌜ r ≡ cond (chargeKinds kind && within 1 maxAmount amount) 0 3 ⌝ }
+    ensures { λ r. ⌜ r ≡ cond (isChargeKind kind && within 1 maxAmount amount) 0 3 ⌝ }
 {
     match kind {
         1 | 2 | 3 | 4 | 5 => amount_code(amount),
@@ -54,7 +54,7 @@ fn span_code(day: u32, from: u32, to: u32) -> u8
 }
 
 fn mark_code(kind: u32, day: u32, from: u32, to: u32) -> u8
-    ensures { λ r. ⌜ r ≡ cond (markKinds kind && (leb day from && (leb from to && leb to finalDay))) 0 3 ⌝ }
+    ensures { λ r. ⌜ r ≡ cond (isMarkKind kind && (leb day from && (leb from to && leb to finalDay))) 0 3 ⌝ }
 {
     match kind {
         1 | 2 | 3 => span_code(day, from, to),
@@ -63,7 +63,7 @@ fn mark_code(kind: u32, day: u32, from: u32, to: u32) -> u8
 }
 
 fn plan_code(kind: u32) -> u8
-    ensures { λ r. ⌜ r ≡ cond (planKinds kind) 0 3 ⌝ }
+    ensures { λ r. ⌜ r ≡ cond (isPlanKind kind) 0 3 ⌝ }
 {
     match kind {
         1 | 2 => 0,

@@ -3,7 +3,7 @@
 ghost use mathlib.Core.Path.{_≡_};
 ghost use Prim.Native.Nat.{_+_, _-_, _≤_, _<_};
 ghost use Rattle.calendar.specs.Calendar.{dayCount};
-ghost use Rattle.marks.specs.Marks.{markBit, markRange, dayBefore, businessLeft, nearOf, marked, barringOn, latestWarning, weatherNear};
+ghost use Rattle.marks.specs.Marks.{markBit, markRange, dayBefore, businessLeft, marked, barringOn, latestWarning, weatherNear};
 
 // A byte for each day.
 pub type DayBytes = [u8; calendar::DAY_COUNT as usize];

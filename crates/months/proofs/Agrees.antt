@@ -30,7 +30,7 @@ use Rattle.refinement.specs.Lists.{Made}
 use Rattle.refinement.specs.Agree.{Agree, recordedUsage, recordedPayment}
 use Rattle.refinement.proofs.Agreed.{is-account}
 use Rattle.refinement.proofs.Lists.{made-represents}
-use Rattle.months.specs.Summary.{inMonthOf, heldKept, heldReversed, paymentsBy, one, heldAmount, stateOf, usageBy, summaryBy, summaryOf, IsSummary}
+use Rattle.months.specs.Summary.{inMonthOf, paymentKept, paymentReversed, paymentsBy, one, paymentAmount, stateOf, usageBy, summaryBy, summaryOf, IsSummary}
 use Rattle.months.proofs.Sums.{total-same, any-same, any-none}
 use Rattle.months.proofs.Numbers.{by-number, Dated, dated-after}
 
@@ -99,7 +99,7 @@ module _ (t : Terms) (m : ℕ) (o : opens (t .opened) ≡ true) where
     unfolding summaryBy ledgerSummary
     summary-is = rw (is-account t a l g, g .terms, has-days) (decide (hasDays t m)
         (λ y. let h : m ≤ 14 = month-small y in
-        rw (y, first h, charge 1 h (omega arith), charge 2 h (omega arith), charge 3 h (omega arith), charge 4 h (omega arith), small 1, small 2, paid heldKept live one (λ (x : Option Entry). 1) (λ n. refl) (λ n. refl), paid heldKept live heldAmount (orZero amountOf) (λ n. refl) (λ n. refl), paid heldReversed back one (λ (x : Option Entry). 1) (λ n. refl) (λ n. refl), paid heldReversed back heldAmount (orZero amountOf) (λ n. refl) (λ n. refl), used meteredWh, used meteredCost, used estimatedWh, used estimateCost))
+        rw (y, first h, charge 1 h (omega arith), charge 2 h (omega arith), charge 3 h (omega arith), charge 4 h (omega arith), small 1, small 2, paid paymentKept live one (λ (x : Option Entry). 1) (λ n. refl) (λ n. refl), paid paymentKept live paymentAmount (orZero amountOf) (λ n. refl) (λ n. refl), paid paymentReversed back one (λ (x : Option Entry). 1) (λ n. refl) (λ n. refl), paid paymentReversed back paymentAmount (orZero amountOf) (λ n. refl) (λ n. refl), used meteredWh, used meteredCost, used estimatedWh, used estimateCost))
         (λ f. rw f))
 
 -- The summary of an account that this software made is the ledger's of the same events.

@@ -32,11 +32,11 @@ inMonthOf opened m d = isDay opened d && eqb (monthFrom opened (dateOn opened d)
 
 -- ---- payments
 
-abbrev pub heldKept : Payment → Bool
-heldKept x = not (x .reversed)
+abbrev pub paymentKept : Payment → Bool
+paymentKept x = not (x .reversed)
 
-abbrev pub heldReversed : Payment → Bool
-heldReversed x = x .reversed
+abbrev pub paymentReversed : Payment → Bool
+paymentReversed x = x .reversed
 
 -- what f gives of a payment that p picks and whose day has q
 abbrev pub ofPayment : (ℕ → Bool) → (Payment → Bool) → (Payment → ℕ) → Payment → ℕ
@@ -49,11 +49,11 @@ paymentsBy q p f l n = total (λ (i : ℕ). ofPayment q p f (getD l i noPayment)
 abbrev pub one : Payment → ℕ
 one x = 1
 
-abbrev pub heldAmount : Payment → ℕ
-heldAmount x = x .amount
+abbrev pub paymentAmount : Payment → ℕ
+paymentAmount x = x .amount
 
 abbrev pub countedBy : (ℕ → Bool) → (Payment → Bool) → List Payment → ℕ → Counted
-countedBy q p l n = record { count = paymentsBy q p one l n; sum = paymentsBy q p heldAmount l n }
+countedBy q p l n = record { count = paymentsBy q p one l n; sum = paymentsBy q p paymentAmount l n }
 
 -- ---- usage days
 
@@ -78,24 +78,24 @@ abbrev pub chargesOf : List ℕ → ℕ → List ℕ
 chargesOf l m = getD l (5 * m) 0 ∷ getD l (5 * m + 1) 0 ∷ getD l (5 * m + 2) 0 ∷ getD l (5 * m + 3) 0 ∷ getD l (5 * m + 4) 0 ∷ []
 
 -- No list of charges takes a month's sum past 2 ^ 40: a record that has one, of a kind that is in the average, is no account of this software's.
-abbrev pub maxCharges : ℕ
-maxCharges = 1099511627776
+abbrev pub maxChargeSum : ℕ
+maxChargeSum = 1099511627776
 
 -- ---- the summary
 
 -- the figures of the payments, the usage and the charges; kinds 1 and 2 are in the average
 abbrev pub figuresBy : Counted → Counted → Used → Used → List ℕ → Summary
-figuresBy kept reversed read guessed charges =
-    cond (leb (getD charges 0 0) maxCharges && leb (getD charges 1 0) maxCharges)
+figuresBy kept reversed meteredUse estimatedUse charges =
+    cond (leb (getD charges 0 0) maxChargeSum && leb (getD charges 1 0) maxChargeSum)
     (record {
       code = 0;
       kept = kept;
       reversed = reversed;
-      metered = read;
-      estimated = guessed;
+      metered = meteredUse;
+      estimated = estimatedUse;
       charges = charges;
-      average = averageOf (read .cost + guessed .cost + getD charges 0 0 + getD charges 1 0) (read .wh + guessed .wh);
-      missing = eqb (read .wh + guessed .wh) 0;
+      average = averageOf (meteredUse .cost + estimatedUse .cost + getD charges 0 0 + getD charges 1 0) (meteredUse .wh + estimatedUse .wh);
+      missing = eqb (meteredUse .wh + estimatedUse .wh) 0;
     })
     (noSummary 1)
 
@@ -104,8 +104,8 @@ unfoldable pub summaryBy : (ℕ → Bool) → Account → ℕ → Summary
 summaryBy q a m =
     cond (anyDay q dayCount)
     (figuresBy
-    (countedBy q heldKept (a .payments) (a .totals .count))
-    (countedBy q heldReversed (a .payments) (a .totals .count))
+    (countedBy q paymentKept (a .payments) (a .totals .count))
+    (countedBy q paymentReversed (a .payments) (a .totals .count))
     (meteredBy q (a .days) dayCount)
     (estimatedBy q (a .days) dayCount)
     (chargesOf (a .charges) m))

@@ -11,7 +11,7 @@ use Rattle.ledger.specs.Months.{meteredWh, meteredCost, estimatedWh}
 use Rattle.moves.specs.declared.Usage.{Usage}
 use Rattle.moves.specs.declared.Day.{Day}
 use Rattle.moves.specs.declared.Payment.{Payment}
-use Rattle.months.specs.Summary.{heldKept, heldReversed, ofPayment, one, heldAmount, countedBy, stateOf, meteredBy, estimatedBy, figuresBy}
+use Rattle.months.specs.Summary.{paymentKept, paymentReversed, ofPayment, one, paymentAmount, countedBy, stateOf, meteredBy, estimatedBy, figuresBy}
 use Rattle.months.specs.declared.Paid.{Paid}
 use Rattle.months.specs.declared.Usages.{Usages}
 
@@ -25,13 +25,13 @@ abbrev pub withAmount : Counted → ℕ → Counted
 withAmount c amount = record { count = c .count + 1; sum = c .sum + amount }
 
 abbrev pub withCounted : (ℕ → Bool) → (Payment → Bool) → Counted → Payment → Counted
-withCounted q p c x = record { count = c .count + ofPayment q p one x; sum = c .sum + ofPayment q p heldAmount x }
+withCounted q p c x = record { count = c .count + ofPayment q p one x; sum = c .sum + ofPayment q p paymentAmount x }
 
 unfoldable pub withPayment : (ℕ → Bool) → Paid → Payment → Paid
-withPayment q s x = record { kept = withCounted q heldKept (s .kept) x; reversed = withCounted q heldReversed (s .reversed) x }
+withPayment q s x = record { kept = withCounted q paymentKept (s .kept) x; reversed = withCounted q paymentReversed (s .reversed) x }
 
 unfoldable pub paidBy : (ℕ → Bool) → List Payment → ℕ → Paid
-paidBy q l n = record { kept = countedBy q heldKept l n; reversed = countedBy q heldReversed l n }
+paidBy q l n = record { kept = countedBy q paymentKept l n; reversed = countedBy q paymentReversed l n }
 
 -- how far n payments can take them
 pub record PaidTo (n : ℕ) (s : Paid) : Type 0 where

@@ -28,7 +28,7 @@ struct Usages {
 }
 
 // No list of charges takes a sum past this: a record that has one, of kind 1 or 2, is no account of this software's.
-const MAX_CHARGES: u64 = 1099511627776;
+const MAX_CHARGE_SUM: u64 = 1099511627776;
 
 // ---- payments
 
@@ -194,10 +194,10 @@ fn figures(p: Paid, u: Usages, charges: [u64; 5]) -> Summary
 {
     let delivery = charges[0];
     let tax = charges[1];
-    if delivery > MAX_CHARGES {
+    if delivery > MAX_CHARGE_SUM {
         return nothing(1);
     }
-    if tax > MAX_CHARGES {
+    if tax > MAX_CHARGE_SUM {
         return nothing(1);
     }
     let kept = p.kept;

@@ -11,7 +11,7 @@ use Rattle.marks.specs.Marks.{latestWarning, isMissing}
 use Rattle.terms.specs.declared.Terms.{Terms}
 use Rattle.ledger.specs.Event.{inLimits}
 use Rattle.ledger.specs.declared.Event.{Event}
-use Rattle.moves.specs.Moves.{maxTotal, earlyCode, move, refusing, bySort, moveOf, byUsage, chargePlace, planConditionMet, barredOn, payOf, reverseOf, creditOf, chargeOf, estimateOf, estimatedOf, readOf, meteredOf, warnOf, markOf, deferredOf, planOf, servedOf, disconnectOf, connectOf}
+use Rattle.moves.specs.Moves.{maxTotal, earlyCode, move, refusing, bySort, moveOf, byUsage, chargePlace, planConditionMet, barredOn, payOf, reverseOf, creditOf, chargeOf, estimateOf, estimatedOf, readOf, meteredOf, warnOf, markOf, deferringOf, planOf, servedOf, disconnectOf, connectOf}
 use Rattle.moves.specs.declared.Usage.{Usage}
 use Rattle.moves.specs.declared.Usage.the-variants.{Blank, Estimated, Metered}
 use Rattle.moves.specs.declared.Day.{Day}
@@ -31,12 +31,12 @@ module _ (t : Terms) (m : Move) (charges marks warned : List ℕ) (e : Event) wh
   unfolding moveOf
   refused-early h = ways.no _ _ _ (ne-eqb (earlyCode t (m .totals) e) 0 h)
 
-  pub goes-on : earlyCode t (m .totals) e ≡ 0 → moveOf t m charges marks warned e ≡ bySort (e .sort) t m charges marks warned e
+  pub goes-on : earlyCode t (m .totals) e ≡ 0 → moveOf t m charges marks warned e ≡ bySort t m charges marks warned e (e .sort)
   unfolding moveOf
   goes-on h = ways.yes _ _ _ (eq-eqb (earlyCode t (m .totals) e) 0 h)
 
-  pub of-sort : {k : ℕ} → e .sort ≡ k → bySort (e .sort) t m charges marks warned e ≡ bySort k t m charges marks warned e
-  of-sort s = ap (λ (k : ℕ). bySort k t m charges marks warned e) s
+  pub of-sort : {k : ℕ} → e .sort ≡ k → bySort t m charges marks warned e (e .sort) ≡ bySort t m charges marks warned e k
+  of-sort s = ap (λ (k : ℕ). bySort t m charges marks warned e k) s
 
   -- what holds of each sort's move, and of the refusal of another sort
   pub record OfEach (P : Move → Type 0) : Type 0 where
@@ -58,7 +58,7 @@ module _ (t : Terms) (m : Move) (charges marks warned : List ℕ) (e : Event) wh
     or k f g = branch P (eqb (e .sort) k) (λ y. f (eqb-true (e .sort) k y)) g
 
     -- holds of the event's
-    pub by-sort : OfEach P → P (bySort (e .sort) t m charges marks warned e)
+    pub by-sort : OfEach P → P (bySort t m charges marks warned e (e .sort))
     unfolding bySort inLimits
     by-sort h =
         or 1 (h .pays) (λ f₁. or 2 (h .reverses) (λ f₂. or 3 (h .credits) (λ f₃. or 4 (h .charged) (λ f₄. or 5 (h .estimates) (λ f₅. or 6 (h .reads)
@@ -98,8 +98,8 @@ module _ (t : Terms) (m : Move) (charges marks warned : List ℕ) (e : Event) (h
   charge-place : Early t (m .totals) e → e .sort ≡ 4 → chargePlace t e < 75
   charge-place k s = let f = charge-limits e s (k .limits) in omega (arith, month-on t (m .totals) e k, f .kind .least, f .kind .most)
 
-  by-sorts : Early t (m .totals) e → Sound m (bySort (e .sort) t m charges marks warned e)
-  unfolding payOf reverseOf creditOf chargeOf estimateOf estimatedOf readOf meteredOf warnOf markOf planOf deferredOf servedOf disconnectOf connectOf
+  by-sorts : Early t (m .totals) e → Sound m (bySort t m charges marks warned e (e .sort))
+  unfolding payOf reverseOf creditOf chargeOf estimateOf estimatedOf readOf meteredOf warnOf markOf planOf deferringOf servedOf disconnectOf connectOf
   by-sorts k = by-sort t m charges marks warned e (Sound m) (record {
     pays = λ _. branch (Sound m) (leb 128 (m .totals .count)) (λ _. no 5) (λ f. taken (leb-false 128 (m .totals .count) f) (h .1));
     reverses = λ _. test (leb (m .totals .count) (e .number)) (no 6) (test (m .payment .reversed) (no 6) yes);

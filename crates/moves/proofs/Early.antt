@@ -12,7 +12,7 @@ use Rattle.calendar.proofs.Laws.{month-limit}
 use Rattle.tariff.specs.Tariff.{costOf}
 use Rattle.terms.specs.Terms.{validTerms, termsCode, within}
 use Rattle.terms.specs.declared.Terms.{Terms}
-use Rattle.ledger.specs.Event.{inLimits, chargeKinds, markKinds}
+use Rattle.ledger.specs.Event.{inLimits, isChargeKind, isMarkKind}
 use Rattle.ledger.specs.declared.Event.{Event}
 use Rattle.limits.proofs.Sorts as sorts
 use Rattle.moves.specs.Moves.{isAccount, earlyCode}
@@ -137,10 +137,10 @@ pub record ChargeLimits (e : Event) : Type 0 where
 
 pub charge-limits : (e : Event) → e .sort ≡ 4 → inLimits e ≡ true → ChargeLimits e
 charge-limits e s h =
-    let l : chargeKinds (e .kind) && within 1 10000000 (e .amount) ≡ true = rw (sorts.charges e s) at h in
+    let l : isChargeKind (e .kind) && within 1 10000000 (e .amount) ≡ true = rw (sorts.charges e s) at h in
     record {
       kind = between 1 5 (e .kind) (and-left _ _ l);
-      amount = between 1 10000000 (e .amount) (and-right (chargeKinds (e .kind)) _ l);
+      amount = between 1 10000000 (e .amount) (and-right (isChargeKind (e .kind)) _ l);
     }
 
 pub usage-limits : (e : Event) → (e .sort ≡ 5) ⊎ (e .sort ≡ 6) → inLimits e ≡ true → e .wh ≤ 9999999
@@ -159,7 +159,7 @@ pub record MarkLimits (e : Event) : Type 0 where
 pub mark-limits : (e : Event) → e .sort ≡ 8 → inLimits e ≡ true → MarkLimits e
 mark-limits e s h =
     let l = rw (sorts.marks e s) at h in
-    let day = leb-and (e .day) (e .from) _ (and-right (markKinds (e .kind)) _ l) in
+    let day = leb-and (e .day) (e .from) _ (and-right (isMarkKind (e .kind)) _ l) in
     let from = leb-and (e .from) (e .to) _ (day .1) in
     record {
       kind = between 1 3 (e .kind) (and-left _ _ l);

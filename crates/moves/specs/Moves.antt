@@ -207,8 +207,8 @@ markOf t m e = accepting (marking m (e .kind) (e .from) (e .to)) (tallied (m .to
 abbrev pub deferralOf : Terms → Totals → ℕ
 deferralOf t s = t .connect + s .debit - s .credit
 
-unfoldable pub deferredOf : Terms → Move → Event → Move
-deferredOf t m e =
+unfoldable pub deferringOf : Terms → Move → Event → Move
+deferringOf t m e =
     cond (ltb 0 (m .totals .plan)) (refusing m 10)
     (accepting m
     (withPlan (credited (tallied (m .totals) (e .day)) (deferralOf t (m .totals))) (m .totals .plan + deferralOf t (m .totals)))
@@ -222,7 +222,7 @@ planConditionMet t s marks e =
     (ltb (s .credit) (s .debit))
 
 unfoldable pub planOf : Terms → Move → List ℕ → Event → Move
-planOf t m marks e = cond (planConditionMet t (m .totals) marks e) (deferredOf t m e) (refusing m 9)
+planOf t m marks e = cond (planConditionMet t (m .totals) marks e) (deferringOf t m e) (refusing m 9)
 
 unfoldable pub servedOf : Terms → Move → Event → Bool → Move
 servedOf t m e b = accepting m (withService (tallied (m .totals) (e .day)) b) 0
@@ -243,8 +243,8 @@ connectOf t m e =
     (cond (ltb (m .totals .credit) (m .totals .debit + t .connect)) (refusing m 12) (servedOf t m e true))
 
 -- the move of sort k
-unfoldable pub bySort : ℕ → Terms → Move → List ℕ → List ℕ → List ℕ → Event → Move
-bySort k t m charges marks warned e =
+unfoldable pub bySort : Terms → Move → List ℕ → List ℕ → List ℕ → Event → ℕ → Move
+bySort t m charges marks warned e k =
     cond (eqb k 1) (payOf t m e)
     (cond (eqb k 2) (reverseOf t m e)
     (cond (eqb k 3) (creditOf t m e)
@@ -260,7 +260,7 @@ bySort k t m charges marks warned e =
 -- A refusal of every sort first, then the sort's own.
 unfoldable pub moveOf : Terms → Move → List ℕ → List ℕ → List ℕ → Event → Move
 moveOf t m charges marks warned e =
-    cond (eqb (earlyCode t (m .totals) e) 0) (bySort (e .sort) t m charges marks warned e) (refusing m (earlyCode t (m .totals) e))
+    cond (eqb (earlyCode t (m .totals) e) 0) (bySort t m charges marks warned e (e .sort)) (refusing m (earlyCode t (m .totals) e))
 
 -- Before an event: no answer yet, and the cells that it may change as they are. A number past the payments, or a day past the account's, is
 -- looked at by its remainder: where the sort names the field the event is refused, else the cell is written back as it was.

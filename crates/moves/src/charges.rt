@@ -4,7 +4,7 @@ use super::MAX_TOTAL;
 use super::Move;
 use super::accept;
 use super::refuse;
-use ledger::CHARGE_KINDS;
+use ledger::CHARGE_KIND_COUNT;
 use ledger::Event;
 use terms::Terms;
 ghost use mathlib.Core.Path.{_≡_};
@@ -16,7 +16,7 @@ pub(crate) fn charge(t: Terms, mut m: Move, charges: &Charges, e: Event) -> Move
 {
     let opened = t.opened;
     let month = calendar::month_of(opened, e.day);
-    let place = CHARGE_KINDS * month + (e.kind - 1);
+    let place = CHARGE_KIND_COUNT * month + (e.kind - 1);
     let i = place as usize;
     let sum = charges[i];
     if sum > MAX_TOTAL {

@@ -74,7 +74,7 @@ pub struct Move {
 }
 
 // A place for each month and charge kind: month m's charges of kind k are summed at 5 m + k - 1.
-pub const CHARGE_PLACES: usize = (calendar::MONTH_COUNT * ledger::CHARGE_KINDS) as usize;
+pub const CHARGE_PLACES: usize = (calendar::MONTH_COUNT * ledger::CHARGE_KIND_COUNT) as usize;
 
 pub type Charges = [u64; CHARGE_PLACES];
 
@@ -134,7 +134,7 @@ fn by_sort<'a>(
     e: Event,
 ) -> Move
     requires { ⌜ earlyCode t (m .totals) e ≡ 0 ⌝ }
-    ensures { λ r. ⌜ r ≡ bySort (e .sort) t m (now (charges .entry)) (now (marks .entry)) (now (warned .entry)) e ⌝ }
+    ensures { λ r. ⌜ r ≡ bySort t m (now (charges .entry)) (now (marks .entry)) (now (warned .entry)) e (e .sort) ⌝ }
 {
     let sort = e.sort;
     match sort {

@@ -13,7 +13,7 @@ use Rattle.ledger.proofs.Money.{diff, diff-add, diff-sub}
 use Rattle.ledger.proofs.Identity.{settled-is}
 use Rattle.moves.specs.declared.Totals.{Totals}
 use Rattle.account.specs.declared.Account.{Account}
-use Rattle.refinement.specs.Agree.{Sums, Bounds, Represents}
+use Rattle.refinement.specs.Agree.{TotalsAgree, Bounds, Represents}
 use Rattle.refinement.proofs.Lists.{made-represents}
 use Rattle.readings.specs.Readings.{balanceOf, settledOf, IsReading, IsBalance, IsPlan, IsService, IsSettled, IsEstimates}
 
@@ -21,7 +21,7 @@ module _ (t : Terms) (a : Account) (l : Ledger) (q : Represents t a l) where
   abbrev s : Totals
   s = a .totals
 
-  abbrev g : Sums t s l
+  abbrev g : TotalsAgree t s l
   g = q .agree .sums
 
   abbrev b : Bounds s

@@ -16,7 +16,7 @@ use Rattle.ledger.specs.Event.{isEstimate, isRead, inLimits}
 use Rattle.ledger.specs.Entries.{usageCost, lastDay, usageDay, estimateCost}
 use Rattle.ledger.specs.Rules.{Ledger}
 use Rattle.ledger.specs.Sums.{standingCost}
-use Rattle.ledger.specs.Ledger.{refusal, ledgerStep}
+use Rattle.ledger.specs.Ledger.{Outcome, refusal, ledgerStep}
 use Rattle.ledger.proofs.Accepted.{Accepted, accepted-by}
 use Rattle.ledger.specs.Invariant.{Invariant}
 use Rattle.ledger.proofs.Money.{diff, diff-add, diff-sub}
@@ -26,10 +26,17 @@ use Rattle.moves.specs.declared.Move.{Move}
 use Rattle.moves.proofs.Early.{Early, early}
 use Rattle.account.specs.Step.{cellsOf, posted}
 use Rattle.account.specs.declared.Account.{Account}
-use Rattle.refinement.specs.Agree.{Agree, Same}
+use Rattle.account.specs.declared.Posted.{Posted}
+use Rattle.refinement.specs.Agree.{Agree}
 use Rattle.refinement.proofs.Refusals.{Passes, refuses}
 
--- The move x of the event, withCells into the account, is what the ledger makes of it.
+-- the same answer, and they agree again
+pub record Same (t : Terms) (p : Posted) (o : Outcome) : Type 0 where
+  pub code : p .code ≡ o .answer .code
+  pub value : p .value ≡ o .answer .value
+  pub again : Agree t (p .account) (o .ledger)
+
+-- The move x of the event, written into the account, is what the ledger makes of it.
 pub record Refines (a : Account) (l : Ledger) (e : Event) (x : Move) : Type 0 where
   pub same : Same (a .terms) (posted a e x) (ledgerStep (a .terms) l e)
 

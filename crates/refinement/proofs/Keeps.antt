@@ -15,16 +15,16 @@ use Rattle.marks.specs.Marks.{marked}
 use Rattle.marks.proofs.Laws.{marked-at, byte-or}
 use Rattle.ledger.specs.declared.Event.{Event}
 use Rattle.ledger.specs.Event.{isPay, isReverse, isCharge, isEstimate, isRead, isWarn, isMark, inLimits}
-use Rattle.ledger.specs.Entries.{Entries, any, paymentCount, paidOn, paidAmount, paidPart, reversed, UsageDay, usageDay, readOn, estimateOn, covered}
+use Rattle.ledger.specs.Entries.{estimateCost, Entries, any, paymentCount, paidOn, paidAmount, paidPart, reversed, UsageDay, usageDay, readOn, estimateOn, covered}
 use Rattle.ledger.specs.Months.{chargesIn, monthOf}
 use Rattle.ledger.proofs.Cases.{decide, both}
-use Rattle.account.specs.Record.{blankDay, noPayment, costHeld}
+use Rattle.account.specs.Record.{blankDay, noPayment}
 use Rattle.account.specs.declared.Account.{Account}
 use Rattle.moves.specs.declared.Payment.{Payment}
 use Rattle.moves.specs.declared.Day.{Day}
 use Rattle.moves.proofs.Cost.{cost-limit}
 use Rattle.moves.proofs.Early.{amount-limits, charge-limits, usage-limits}
-use Rattle.refinement.specs.Agree.{Kept, recordedUsage, recordedPayment, recordedMarks, warnedOn}
+use Rattle.refinement.specs.Agree.{CellsAgree, recordedUsage, recordedPayment, recordedMarks, warnedOn}
 use Rattle.refinement.proofs.Fields as F
 
 -- ---- the fields that hold a limit, whatever the sort
@@ -38,27 +38,27 @@ module _ (t : Terms) (e : Event) (p : ℕ) (l : Entries) (h : inLimits e ≡ tru
       (λ f. simp f (omega (arith, c m k))))
 
   -- the cost held of a day that has this event's estimate
-  estimate-held : t .price ≤ 99999 → (u : ℕ) → estimateOn u e ≡ true → costHeld (recordedUsage (usageDay t (F.more e p l) u)) ≤ 10000000
+  estimate-held : t .price ≤ 99999 → (u : ℕ) → estimateOn u e ≡ true → estimateCost (usageDay t (F.more e p l) u) ≤ 10000000
   estimate-held q u y =
       let i : isEstimate e ≡ true = both (isEstimate e) (eqb (e .usage) u) y .0 in
       let s : e .sort ≡ 5 = eqb-true (e .sort) 5 i in
       let w : e .wh ≤ 9999999 = usage-limits e (inl s) h in
       let r : isRead e ≡ false = rw s refl in
-      subst (λ (v : ℕ). costHeld (recordedUsage (usageDay t (F.more e p l) v)) ≤ 10000000) (eqb-true (e .usage) u (both (isEstimate e) (eqb (e .usage) u) y .1))
+      subst (λ (v : ℕ). estimateCost (usageDay t (F.more e p l) v) ≤ 10000000) (eqb-true (e .usage) u (both (isEstimate e) (eqb (e .usage) u) y .1))
       (decide (any (readOn (e .usage)) l)
       (λ m. rw (F.usage-read-before e p l t r m) (omega arith))
       (λ n. rw (F.usage-estimated e p l t i r n) (omega (arith, cost-limit (e .wh) (t .price) w q))))
 
-  pub held-keep : t .price ≤ 99999 → ((u : ℕ) → costHeld (recordedUsage (usageDay t l u)) ≤ 10000000) → (u : ℕ) → costHeld (recordedUsage (usageDay t (F.more e p l) u)) ≤ 10000000
+  pub held-keep : t .price ≤ 99999 → ((u : ℕ) → estimateCost (usageDay t l u) ≤ 10000000) → (u : ℕ) → estimateCost (usageDay t (F.more e p l) u) ≤ 10000000
   held-keep q k u = decide (readOn u e)
       (λ y. let b = both (isRead e) (eqb (e .usage) u) y in
-      subst (λ (v : ℕ). costHeld (recordedUsage (usageDay t (F.more e p l) v)) ≤ 10000000) (eqb-true (e .usage) u (b .1)) (rw (F.usage-metered e p l t (b .0)) (omega arith)))
+      subst (λ (v : ℕ). estimateCost (usageDay t (F.more e p l) v) ≤ 10000000) (eqb-true (e .usage) u (b .1)) (rw (F.usage-metered e p l t (b .0)) (omega arith)))
       (λ f. decide (estimateOn u e)
       (λ y. estimate-held q u y)
       (λ g. rw (F.usage-same e p l t u g f) (k u)))
 
 -- ---- the record's fields that the event leaves
-module _ (t : Terms) (a : Account) (e : Event) (p : ℕ) (l : Entries) (k : Kept t a l) where
+module _ (t : Terms) (a : Account) (e : Event) (p : ℕ) (l : Entries) (k : CellsAgree t a l) where
   pub payments-stay : isPay e ≡ false → isReverse e ≡ false → (n : ℕ) → n < paymentCount (F.more e p l) → getD (a .payments) n noPayment ≡ recordedPayment (F.more e p l) n
   payments-stay f g n h =
       rw (F.payment-same e p l n f, F.reversed-same e p l n (rw g))

@@ -24,9 +24,9 @@ use Rattle.moves.proofs.Arms as moves
 use Rattle.account.specs.Record.{fresh, blankDay, noPayment}
 use Rattle.account.specs.Step.{cellsOf, stepOf}
 use Rattle.account.specs.declared.Account.{Account}
-use Rattle.refinement.specs.Agree.{Agree, Same, warnedOn}
+use Rattle.refinement.specs.Agree.{Agree, warnedOn}
 use Rattle.refinement.proofs.Refusals.{Passes, code-2, code-3, code-4}
-use Rattle.refinement.proofs.Agreed.{Refines, early-is, refused-same, passed}
+use Rattle.refinement.proofs.Agreed.{Same, Refines, early-is, refused-same, passed}
 use Rattle.refinement.proofs.Payments.{pays, reverses, credits, charged}
 use Rattle.refinement.proofs.Usage.{estimates, reads}
 use Rattle.refinement.proofs.Service.{warns, marked, plans, disconnects, connects}
@@ -38,7 +38,7 @@ module _ (a : Account) (l : Ledger) (e : Event) (s : Invariant (a .terms) l) (g 
   abbrev c : Move
   c = cellsOf a e
 
-  by-sort : Passes l e → Refines a l e (bySort (e .sort) t c (a .charges) (a .marks) (a .warned) e)
+  by-sort : Passes l e → Refines a l e (bySort t c (a .charges) (a .marks) (a .warned) e (e .sort))
   by-sort h = moves.by-sort t c (a .charges) (a .marks) (a .warned) e (Refines a l e) (record {
     pays = pays a l e g s h;
     reverses = reverses a l e g s h;

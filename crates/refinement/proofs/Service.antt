@@ -24,7 +24,7 @@ use Rattle.ledger.specs.Ledger.{effectOf, serviceEffect, planEffect, deferred}
 use Rattle.ledger.specs.Invariant.{Invariant}
 use Rattle.ledger.proofs.Cases.{decide, both}
 use Rattle.ledger.proofs.Money.{diff, diff-eq, diff-zero, diff-lt, diff-ge, diff-low, diff-gap}
-use Rattle.moves.specs.Moves.{cellsBefore, tallied, withService, planConditionMet, deferralOf, barredOn, warnOf, markOf, deferredOf, planOf, servedOf, disconnectOf, connectOf}
+use Rattle.moves.specs.Moves.{cellsBefore, tallied, withService, planConditionMet, deferralOf, barredOn, warnOf, markOf, deferringOf, planOf, servedOf, disconnectOf, connectOf}
 use Rattle.moves.specs.declared.Move.{Move}
 use Rattle.moves.proofs.Arms.{branch}
 use Rattle.moves.proofs.Early.{mark-limits}
@@ -153,8 +153,8 @@ module _ (a : Account) (l : Ledger) (e : Event) (g : Agree (a .terms) a l) (s : 
   unfolding deferred
   deferral-is y = sym (ap (λ (b : ℤ). natAbs (pos (t .connect) -ℤ b)) (g .sums .balance) ∙ diff-gap (a .totals .credit) (a .totals .debit) (t .connect) y)
 
-  deferring : e .sort ≡ 9 → planConditionMet t (a .totals) (a .marks) e ≡ true → Refines a l e (deferredOf t c e)
-  unfolding effectOf deferredOf planEffect cellsBefore
+  deferring : e .sort ≡ 9 → planConditionMet t (a .totals) (a .marks) e ≡ true → Refines a l e (deferringOf t c e)
+  unfolding effectOf deferringOf planEffect cellsBefore
   deferring k y =
       let allowed : mayDefer t l e ≡ true = sym plan-is ∙ y in
       let low : a .totals .credit ≤ a .totals .debit = short y in

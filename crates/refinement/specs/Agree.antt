@@ -11,14 +11,14 @@ use Rattle.terms.specs.Terms.{validTerms}
 use Rattle.terms.specs.declared.Terms.{Terms}
 use Rattle.ledger.specs.declared.Event.{Event}
 use Rattle.ledger.specs.Event.{isWarn, maxAmount, chargeKindCount}
-use Rattle.ledger.specs.Entries.{Entries, any, lastDay, paymentCount, paidOn, paidAmount, paidPart, reversed, UsageDay, blank, estimated, metered, usageDay, covered}
+use Rattle.ledger.specs.Entries.{estimateCost, Entries, any, lastDay, paymentCount, paidOn, paidAmount, paidPart, reversed, UsageDay, blank, estimated, metered, usageDay, covered}
 use Rattle.ledger.specs.Rules.{Ledger, maxEvents, maxPayments}
 use Rattle.ledger.specs.Ledger.{Outcome, opening, ledgerStep, ledgerAfter}
 use Rattle.ledger.specs.Calls.{ledgerCodes}
 use Rattle.ledger.specs.Invariant.{Invariant}
 use Rattle.ledger.specs.Sums.{standingCost}
 use Rattle.ledger.specs.Months.{chargesIn}
-use Rattle.account.specs.Record.{blankDay, noPayment, costHeld, fresh}
+use Rattle.account.specs.Record.{blankDay, noPayment, fresh}
 use Rattle.account.specs.Step.{stepOf}
 use Rattle.moves.specs.declared.Usage.{Usage}
 use Rattle.moves.specs.declared.Usage.the-variants.{Blank, Estimated, Metered}
@@ -52,7 +52,7 @@ unfoldable pub warnedOn : Entries → ℕ → Bool
 warnedOn l d = any (λ (e : Event). isWarn e && eqb (e .day) d) l
 
 -- the totals
-pub record Sums (t : Terms) (s : Totals) (l : Ledger) : Type 0 where
+pub record TotalsAgree (t : Terms) (s : Totals) (l : Ledger) : Type 0 where
   pub events : s .events ≡ length (l .list)
   pub last : s .last ≡ lastDay (l .list)
   pub balance : l .balance ≡ pos (s .credit) -ℤ pos (s .debit)
@@ -71,11 +71,11 @@ pub record Bounds (s : Totals) : Type 0 where
   pub standing : s .standing ≤ s .events * 10000000
 
 -- what is kept by payment, usage day, day, and month with charge kind
-pub record Kept (t : Terms) (a : Account) (l : Entries) : Type 0 where
+pub record CellsAgree (t : Terms) (a : Account) (l : Entries) : Type 0 where
   pub payments : (n : ℕ) → n < paymentCount l → getD (a .payments) n noPayment ≡ recordedPayment l n
   pub amounts : (n : ℕ) → paidAmount l n ≤ maxAmount
   pub days : (u : ℕ) → u < dayCount → getD (a .days) u blankDay .usage ≡ recordedUsage (usageDay t l u)
-  pub held : (u : ℕ) → costHeld (recordedUsage (usageDay t l u)) ≤ 10000000
+  pub held : (u : ℕ) → estimateCost (usageDay t l u) ≤ 10000000
   pub marks : (d : ℕ) → d < dayCount → getD (a .marks) d 0 ≡ recordedMarks l d
   pub warned : (d : ℕ) → d < dayCount → getD (a .warned) d 0 ≡ cond (warnedOn l d) 1 0
   pub charges : (m k : ℕ) → m < monthCount → k < chargeKindCount → getD (a .charges) (5 * m + k) 0 ≡ chargesIn t l m (suc k)
@@ -91,16 +91,10 @@ pub record Sizes (a : Account) : Type 0 where
 pub record Agree (t : Terms) (a : Account) (l : Ledger) : Type 0 where
   pub terms : a .terms ≡ t
   pub valid : validTerms t ≡ true
-  pub sums : Sums t (a .totals) l
+  pub sums : TotalsAgree t (a .totals) l
   pub bounds : Bounds (a .totals)
-  pub kept : Kept t a (l .list)
+  pub kept : CellsAgree t a (l .list)
   pub sizes : Sizes a
-
--- the same answer, and they agree again
-pub record Same (t : Terms) (p : Posted) (o : Outcome) : Type 0 where
-  pub code : p .code ≡ o .answer .code
-  pub value : p .value ≡ o .answer .value
-  pub again : Agree t (p .account) (o .ledger)
 
 -- The record represents the ledger: they agree, and the ledger's sums add up.
 pub record Represents (t : Terms) (a : Account) (l : Ledger) : Type 0 where

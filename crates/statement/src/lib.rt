@@ -200,7 +200,7 @@ pub fn statement(text: &[u8], out: &mut [u8]) -> usize
     if out.len() < STATEMENT_ROOM {
         return 0;
     }
-    if text.len() > text::LONGEST {
+    if text.len() > text::MAX_TEXT {
         return put_refusal(out, 15);
     }
     let read = text::read_terms(text);

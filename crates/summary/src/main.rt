@@ -4,7 +4,7 @@ use libc::STDIN_FILENO;
 use libc::STDOUT_FILENO;
 
 fn main() {
-    let mut text = [0u8; text::LONGEST + 1];
+    let mut text = [0u8; text::MAX_TEXT + 1];
     let count = io::read_full(STDIN_FILENO, &mut text);
     let mut out = [0u8; statement::STATEMENT_ROOM];
     let length = statement::statement(&text[..count], &mut out);

@@ -18,8 +18,8 @@ use Rattle.text.specs.declared.EventRead.{EventRead}
 use Rattle.text.specs.declared.EventRead.the-variants as event-read
 
 -- "exceeds 65,536 bytes": those of the longest text
-abbrev pub longestText : ℕ
-longestText = 65536
+abbrev pub maxText : ℕ
+maxText = 65536
 
 -- ---- the terms: "First `open`, `price`, `connect`, `cutoff`, `share`."
 

@@ -14,7 +14,7 @@ ghost use Rattle.text.specs.Text.{TermsAt, EventAt, fieldLine, sorts, so
 ghost use Rattle.text.specs.Places.{foundOr, SortAt, FieldsAt, NextAt};
 
 // The bytes of the longest text.
-pub const LONGEST: usize = 65536;
+pub const MAX_TEXT: usize = 65536;
 
 // The terms at the start of a text and where its events start, or that they break the form.
 pub enum TermsRead {

@@ -17,7 +17,7 @@ use Rattle.text.proofs.Laws.{event-progress}
 use Rattle.printing.proofs.Counts.{uncounted}
 use Rattle.transcript.specs.Events.{Fold, foldBy, foldIn}
 use Rattle.transcript.specs.Transcript.{ledgerLines}
-use Rattle.transcript.specs.Work.{accountLine, accountClosing, accountLines}
+use Rattle.transcript.specs.Work.{accountLine, accountLastLine, accountLines}
 use Rattle.transcript.specs.Pieces.{amongEvents, pieceBy, eventsPiece}
 use Rattle.transcript.specs.Counts.{FoldSuffices, CountsSuffice}
 use Rattle.transcript.specs.declared.Progress.{Progress}
@@ -44,7 +44,7 @@ module _ {S Y : Type 0} (w : Fold S Y) (more : S → List ℕ → Y) (x : S) whe
 -- ---- how far a piece goes, by what stands there
 
 module _ (more : Account → ℕ → ℕ → ℕ → Progress) (room : ℕ) (s : List ℕ) (a : Account) (at count n : ℕ) where
-  pub piece-end : length s ≤ at → pieceBy more room s a at count n ≡ amongEvents a at count (n + length (accountClosing (a .totals))) true
+  pub piece-end : length s ≤ at → pieceBy more room s a at count n ≡ amongEvents a at count (n + length (accountLastLine (a .totals))) true
   piece-end h = simp (le-leb (length s) at h)
 
   module _ (h : at < length s) where
@@ -53,7 +53,7 @@ module _ (more : Account → ℕ → ℕ → ℕ → Progress) (room : ℕ) (s :
 
     module _ (l : 174 ≤ room - n) where
       pub piece-broken : readEvent (drop at s) ≡ broken
-          → pieceBy more room s a at count n ≡ amongEvents a at count (n + length (accountLine (count + 1) 15 0 (a .totals)) + length (accountClosing (a .totals))) true
+          → pieceBy more room s a at count n ≡ amongEvents a at count (n + length (accountLine (count + 1) 15 0 (a .totals)) + length (accountLastLine (a .totals))) true
       piece-broken g = simp (lt-leb (length s) at h, le-ltb (room - n) 174 l, g)
 
       pub piece-got : (e : Event) (r : List ℕ) → readEvent (drop at s) ≡ got e r

@@ -23,18 +23,18 @@ use Rattle.readings.proofs.After.{balance-reading, settled-reading}
 use Rattle.scanner.specs.Scanner.{got, broken}
 use Rattle.text.specs.Text.{readTerms, readEvent}
 use Rattle.transcript.specs.Events.{foldIn, foldEvents}
-use Rattle.transcript.specs.Transcript.{ledgerLine, ledgerClosing, ledgerLines, termsLine, byTerms, allLines, transcript}
+use Rattle.transcript.specs.Transcript.{ledgerLine, ledgerLastLine, ledgerLines, termsLine, byTerms, allLines, transcript}
 use Rattle.transcript.specs.Pieces.{startOf, begunOf, Begun}
 use Rattle.transcript.specs.declared.Progress.{Progress}
 use Rattle.transcript.proofs.Whole.{begun, events-left, refusal-left}
 use Rattle.transcript.proofs.Terms.{valid, refused, by-terms}
-use Rattle.transcript.specs.Work.{accountLine, accountClosing, accountLines}
+use Rattle.transcript.specs.Work.{accountLine, accountLastLine, accountLines}
 use Rattle.transcript.proofs.Counts.{by-read, fold-got, fold-broken}
 
 -- ---- one line
 
 module _ (t : Terms) (a : Account) (l : Ledger) (s : Represents t a l) where
-  closing-is : accountClosing (a .totals) ≡ ledgerClosing t l
+  closing-is : accountLastLine (a .totals) ≡ ledgerLastLine t l
   closing-is = rw (settled-reading t a l s, s .agree .sums .standing)
 
   line-is : (n code value : ℕ) → accountLine n code value (a .totals) ≡ ledgerLine n code value l

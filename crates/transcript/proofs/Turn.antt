@@ -14,7 +14,7 @@ use Rattle.text.specs.Text.{readEvent}
 use Rattle.printing.specs.Printing.{Wrote}
 use Rattle.printing.proofs.Placed.{kept, wrote-then}
 use Rattle.transcript.specs.Events.{foldBy, foldEvents}
-use Rattle.transcript.specs.Work.{accountLine, accountClosing, accountLines}
+use Rattle.transcript.specs.Work.{accountLine, accountLastLine, accountLines}
 use Rattle.transcript.specs.Pieces.{linesFrom, remaining, amongEvents, pieceBy, pieceFrom, Piece}
 use Rattle.transcript.specs.declared.Progress.{Progress}
 use Rattle.transcript.proofs.Whole.{nothing-written, piece-of, events-left, by-events}
@@ -118,16 +118,16 @@ module _ (text : List ℕ) (p : Progress) (first out : List ℕ) (b : Account) (
         (left-then more [] (counts-suffice .account-lines (b, count + 1) (drop at text) ∙ e ∙ sym (append-nil more))) (λ x. absurd (true≢false x))
 
   pub stops : (mid after : List ℕ) (r q : ℕ) → at < length text → 174 ≤ length out - place → readEvent (drop at text) ≡ broken
-      → Wrote out place (accountLine (count + 1) 15 0 (b .totals)) mid r → Wrote mid r (accountClosing (b .totals)) after q
+      → Wrote out place (accountLine (count + 1) 15 0 (b .totals)) mid r → Wrote mid r (accountLastLine (b .totals)) after q
       → Piece text p first after (amongEvents b at count q true)
   stops mid after r q h l g′ w v =
       let same : length out ≡ length first = kept (g .wrote) in
       closes after _ q (wrote-then w v)
       (fold-broken accountLines (foldEvents accountLines) (b, count + 1) (drop at text) (rw (length-drop at text) (omega arith)) g′)
       (piece-broken (pieceFrom (length first) text) (length first) text b at count place h (omega arith) g′
-      ∙ ap (λ (n : ℕ). amongEvents b at count n true) (sym (v .next ∙ ap (λ (n : ℕ). n + length (accountClosing (b .totals))) (w .next))))
+      ∙ ap (λ (n : ℕ). amongEvents b at count n true) (sym (v .next ∙ ap (λ (n : ℕ). n + length (accountLastLine (b .totals))) (w .next))))
 
-  pub ends : (after : List ℕ) (q : ℕ) → length text ≤ at → Wrote out place (accountClosing (b .totals)) after q
+  pub ends : (after : List ℕ) (q : ℕ) → length text ≤ at → Wrote out place (accountLastLine (b .totals)) after q
       → Piece text p first after (amongEvents b at count q true)
   ends after q h w = closes after _ q w
       (fold-end accountLines (foldEvents accountLines) (b, count + 1) (drop at text) (rw (length-drop at text) (omega arith)))

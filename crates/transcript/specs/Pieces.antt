@@ -10,10 +10,10 @@ use Rattle.terms.specs.declared.Terms.{Terms}
 use Rattle.account.specs.Step.{stepOf, openOf}
 use Rattle.account.specs.declared.Account.{Account}
 use Rattle.scanner.specs.Scanner.{got, broken}
-use Rattle.text.specs.Text.{longestText, readTerms, readEvent}
+use Rattle.text.specs.Text.{maxText, readTerms, readEvent}
 use Rattle.transcript.specs.Transcript.{termsLine, transcript}
 use Rattle.transcript.specs.Events.{foldEvents}
-use Rattle.transcript.specs.Work.{accountLine, accountClosing, accountLines}
+use Rattle.transcript.specs.Work.{accountLine, accountLastLine, accountLines}
 use Rattle.transcript.specs.declared.Progress.{Progress}
 
 -- ---- what is still to be printed
@@ -55,12 +55,12 @@ pieceRoom = eventRoom + lastRoom
 -- line; by `more`, how far it goes from the next event on.
 abbrev pub pieceBy : (Account → ℕ → ℕ → ℕ → Progress) → ℕ → List ℕ → Account → ℕ → ℕ → ℕ → Progress
 pieceBy more room s a at count n =
-    cond (leb (length s) at) (amongEvents a at count (n + length (accountClosing (a .totals))) true)
+    cond (leb (length s) at) (amongEvents a at count (n + length (accountLastLine (a .totals))) true)
     (cond (ltb (room - n) pieceRoom) (amongEvents a at count n false)
     (elim (readEvent (drop at s)) [
       | got e r ↦ more (stepOf a e .account) (length s - length r) (count + 1)
           (n + length (accountLine (count + 1) (stepOf a e .code) (stepOf a e .value) (stepOf a e .account .totals)))
-      | broken ↦ amongEvents a at count (n + length (accountLine (count + 1) 15 0 (a .totals)) + length (accountClosing (a .totals))) true
+      | broken ↦ amongEvents a at count (n + length (accountLine (count + 1) 15 0 (a .totals)) + length (accountLastLine (a .totals))) true
     ]))
 
 -- the same, cut off after k events
@@ -102,7 +102,7 @@ startOf t at code = progressOf (openOf t .account) at 0 code 0 false
 
 -- before the first piece
 abbrev pub begunOf : List ℕ → Progress
-begunOf s = cond (ltb longestText (length s)) (startOf zeroTerms 0 15)
+begunOf s = cond (ltb maxText (length s)) (startOf zeroTerms 0 15)
     (elim (readTerms s) [
       | got t r ↦ startOf t (length s - length r) (openOf t .code)
       | broken ↦ startOf zeroTerms 0 15
@@ -118,4 +118,4 @@ pub record Begun (s : List ℕ) (p : Progress) : Type 0 where
   pub progress : p ≡ begunOf s
   pub all : remaining s p ≡ transcript s
   pub pieces : (w : List ℕ) → Printed s p w → w ≡ transcript s
-  pub bounded : p .code ≡ 0 → length s ≤ longestText
+  pub bounded : p .code ≡ 0 → length s ≤ maxText

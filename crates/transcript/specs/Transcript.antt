@@ -12,7 +12,7 @@ use Rattle.ledger.specs.Rules.{Ledger}
 use Rattle.ledger.specs.Ledger.{opening, ledgerStep}
 use Rattle.ledger.specs.Sums.{settled, standingCost}
 use Rattle.scanner.specs.Scanner.{bytes, feed, Read, got, broken}
-use Rattle.text.specs.Text.{longestText, readTerms}
+use Rattle.text.specs.Text.{maxText, readTerms}
 use Rattle.printing.specs.Printing.{decimal, signed, Whole}
 use Rattle.transcript.specs.Events.{Fold, foldEvents}
 
@@ -32,19 +32,19 @@ lastLine sum cost = bytes "settled=" ++ (signed sum ++ (bytes " estimates=" ++ (
 -- The lines of events with their ordinals, by what each is answered and by the state after it, and the last line. "Code 15 prints its line
 -- and no more is read, then the last line."
 abbrev pub linesFold : {S : Type 0} → (S → Event → S) → (S → Event → ℕ) → (S → Event → ℕ) → (ℕ → ℕ → ℕ → S → List ℕ) → (S → List ℕ) → Fold (S × ℕ) (List ℕ)
-linesFold {S} step code value line closing = record {
+linesFold {S} step code value line last = record {
   step = λ (x : S × ℕ) (e : Event). (step (x .0) e, x .1 + 1);
   event = λ (x : S × ℕ) (e : Event) (more : List ℕ). line (x .1) (code (x .0) e) (value (x .0) e) (step (x .0) e) ++ more;
-  malformed = λ (x : S × ℕ). line (x .1) 15 0 (x .0) ++ closing (x .0);
-  end = λ (x : S × ℕ). closing (x .0);
+  malformed = λ (x : S × ℕ). line (x .1) 15 0 (x .0) ++ last (x .0);
+  end = λ (x : S × ℕ). last (x .0);
 }
 
 -- the ledger's
 abbrev pub ledgerLine : ℕ → ℕ → ℕ → Ledger → List ℕ
 ledgerLine n code value l = eventLine n code value (l .balance) (l .plan)
 
-abbrev pub ledgerClosing : Terms → Ledger → List ℕ
-ledgerClosing t l = lastLine (settled t (l .list)) (standingCost t (l .list))
+abbrev pub ledgerLastLine : Terms → Ledger → List ℕ
+ledgerLastLine t l = lastLine (settled t (l .list)) (standingCost t (l .list))
 
 abbrev pub ledgerLines : Terms → Fold (Ledger × ℕ) (List ℕ)
 ledgerLines t =
@@ -52,7 +52,7 @@ ledgerLines t =
     (λ (l : Ledger) (e : Event). ledgerStep t l e .answer .code)
     (λ (l : Ledger) (e : Event). ledgerStep t l e .answer .value)
     ledgerLine
-    (ledgerClosing t)
+    (ledgerLastLine t)
 
 -- "Refused or malformed terms print one line, `n=0`, with the code and zeros, and nothing after."
 abbrev pub termsLine : ℕ → List ℕ
@@ -65,7 +65,7 @@ byTerms lines (got t r) = cond (validTerms t) (lines t r) (termsLine 1)
 byTerms lines broken = termsLine 15
 
 abbrev pub byText : (Terms → List ℕ → List ℕ) → List ℕ → List ℕ
-byText lines s = cond (ltb longestText (length s)) (termsLine 15) (byTerms lines (readTerms s))
+byText lines s = cond (ltb maxText (length s)) (termsLine 15) (byTerms lines (readTerms s))
 
 -- what `prepay` prints
 abbrev pub allLines : Terms → List ℕ → List ℕ

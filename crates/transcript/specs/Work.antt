@@ -13,8 +13,8 @@ use Rattle.transcript.specs.Transcript.{eventLine, lastLine, linesFold}
 abbrev pub accountLine : ℕ → ℕ → ℕ → Totals → List ℕ
 accountLine n code value s = eventLine n code value (balanceOf s) (s .plan)
 
-abbrev pub accountClosing : Totals → List ℕ
-accountClosing s = lastLine (settledOf s) (s .standing)
+abbrev pub accountLastLine : Totals → List ℕ
+accountLastLine s = lastLine (settledOf s) (s .standing)
 
 abbrev pub accountLines : Fold (Account × ℕ) (List ℕ)
 accountLines =
@@ -22,4 +22,4 @@ accountLines =
     (λ (a : Account) (e : Event). stepOf a e .code)
     (λ (a : Account) (e : Event). stepOf a e .value)
     (λ (n code value : ℕ) (a : Account). accountLine n code value (a .totals))
-    (λ (a : Account). accountClosing (a .totals))
+    (λ (a : Account). accountLastLine (a .totals))

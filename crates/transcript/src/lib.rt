@@ -18,7 +18,7 @@ ghost use Prim.Native.Nat.{_+_, _≤_};
 ghost use lib.ListN.{length};
 ghost use Rattle.printing.specs.Printing.{Wrote};
 ghost use Rattle.transcript.specs.Transcript.{WholeTranscript};
-ghost use Rattle.transcript.specs.Work.{accountLine, accountClosing};
+ghost use Rattle.transcript.specs.Work.{accountLine, accountLastLine};
 ghost use Rattle.terms.specs.Terms.{zeroTerms};
 ghost use Rattle.transcript.specs.Pieces.{eventRoom, lastRoom, pieceRoom, startOf, Begun, Piece};
 ghost use Rattle.transcript.specs.Counts.{CountsSuffice};
@@ -61,9 +61,9 @@ fn put_event(out: &mut [u8], at: usize, n: u64, code: u8, value: u64, s: Totals)
 }
 
 // The last line, by the totals.
-fn put_closing(out: &mut [u8], at: usize, s: Totals) -> usize
+fn put_last_line(out: &mut [u8], at: usize, s: Totals) -> usize
     requires { ⌜ at + lastRoom ≤ length (now out) ⌝ }
-    ensures { λ r. ⌜ Wrote (now (out .entry)) at (accountClosing s) (now (out .exit)) r ⌝ }
+    ensures { λ r. ⌜ Wrote (now (out .entry)) at (accountLastLine s) (now (out .exit)) r ⌝ }
 {
     let settled = readings::settled(s);
     let estimates = readings::estimates(s);
@@ -126,7 +126,7 @@ fn put_events(text: &[u8], p: Progress, out: &mut [u8]) -> Progress
             EventRead::Broken => {
                 let s = b.totals;
                 let after = put_event(out, place, count + 1, 15, 0, s);
-                let length = put_closing(out, after, s);
+                let length = put_last_line(out, after, s);
                 return Progress {
                     account: b,
                     at,
@@ -139,7 +139,7 @@ fn put_events(text: &[u8], p: Progress, out: &mut [u8]) -> Progress
         }
     }
     let s = b.totals;
-    let length = put_closing(out, place, s);
+    let length = put_last_line(out, place, s);
     Progress {
         account: b,
         at,
@@ -181,7 +181,7 @@ fn malformed() -> Progress
 pub fn begin(text: &[u8]) -> Progress
     ensures { λ r. ⌜ Begun (now (text .entry)) r ⌝ }
 {
-    if text.len() > text::LONGEST {
+    if text.len() > text::MAX_TEXT {
         return malformed();
     }
     let TermsRead::Got { terms, next } = text::read_terms(text) else {

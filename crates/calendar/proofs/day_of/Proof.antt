@@ -13,7 +13,7 @@ open-is : (c : tie.Else1) → opens (c .before .before .args .opened) ≡ true
 open-is c = sym (c .before .can-open .ensures) ∙ not-false _ (c .if1 .left)
 
 reached-is : (c : tie.Else2) → inReach (c .before .before .before .before .args .d) ≡ true
-reached-is c = sym (c .before .is-reached .ensures) ∙ not-false _ (c .if2 .left)
+reached-is c = sym (c .before .in-reach .ensures) ∙ not-false _ (c .if2 .left)
 
 -- where the date is day k, k is the difference of their days
 difference : (c : tie.After-days-after2) (k : ℕ) → isDay (c .before .before .before .before .before .before .args .opened) k ≡ true → dateOn (c .before .before .before .before .before .before .args .opened) k ≡ c .before .before .before .before .before .before .args .d → c .days-after2 .result ≡ c .before .days-after .result + k
@@ -26,7 +26,7 @@ returns : tie.Need-returns
 returns c = λ k e _. false≢true (sym (not-true _ (c .if1 .taken)) ∙ (c .before .can-open .ensures ∙ day-limits _ k e .open-is))
 
 returns-2 : tie.Need-returns-2
-returns-2 c = λ k e d. false≢true (sym (not-true _ (c .if2 .taken)) ∙ (c .before .is-reached .ensures ∙ (ap inReach (sym d) ∙ day-reached _ k e)))
+returns-2 c = λ k e d. false≢true (sym (not-true _ (c .if2 .taken)) ∙ (c .before .in-reach .ensures ∙ (ap inReach (sym d) ∙ day-reached _ k e)))
 
 days-after-requires : tie.Need-days-after-requires
 days-after-requires c κs = opens-reached _ (open-is (c .before .before))

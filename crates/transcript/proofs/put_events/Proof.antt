@@ -24,7 +24,7 @@ abbrev μ-loop : tie.MeasureT-loop
 read-as : (c : tie.After-read Inv-loop μ-loop) → EventAt (now (c .before .before .before .before .before .before .before .before .before .args .text)) (c .before .before .before .before .before .loop .at) (Got (c .read .given .0 .0) (c .read .given .0 .1 .0))
 read-as c = rw (c .read .given .1) at (c .before .before .read-event .ensures)
 
--- the record with the move withCells back is the step's
+-- the record with the move written back is the step's
 is-step : (c : tie.After-move-of Inv-loop μ-loop) → let b = c .before .before .before .before .before .before .before .before .before .before .before .before .before .before .before .before .before .loop .b in let e = c .before .before .before .before .before .before .before .before .before .before .before .before .read .given .0 .0 in let m = c .move-of .result in _≡_ {A = Posted} (record { account = withCells b e m; code = m .code; value = m .value }) (stepOf b e)
 is-step c = rw (c .move-of .ensures .move) (written-always _ _)
 
@@ -49,20 +49,20 @@ add-put-event c = omega (arith, c .before .before .before .before .before .befor
 put-event-requires-2 : tie.Need-put-event-requires-2 Inv-loop μ-loop
 put-event-requires-2 c κs = omega (arith, c .before .before .before .before .before .before .before .loop .inv .room, c .before .before .before .before .before .if1 .left)
 
-put-closing-requires : tie.Need-put-closing-requires Inv-loop μ-loop
-put-closing-requires c κs = omega (arith, c .before .before .before .before .before .before .before .before .before .before .before .loop .inv .room, c .before .before .before .before .before .before .before .before .before .if1 .left, c .before .before .before .put-event2 .ensures .1, c .before .before .before .put-event2 .kept .0)
+put-last-line-requires : tie.Need-put-last-line-requires Inv-loop μ-loop
+put-last-line-requires c κs = omega (arith, c .before .before .before .before .before .before .before .before .before .before .before .loop .inv .room, c .before .before .before .before .before .before .before .before .before .if1 .left, c .before .before .before .put-event2 .ensures .1, c .before .before .before .put-event2 .kept .0)
 
 same-length-2 : tie.Need-same-length-2 Inv-loop μ-loop
-same-length-2 c = c .before .before .put-closing .kept .0 ∙ c .before .before .before .before .before .before .put-event2 .kept .0 ∙ sized _ _ _ _ _ _ _ _ _ _ (c .before .before .before .before .before .before .before .before .before .before .before .before .before .before .loop .inv)
+same-length-2 c = c .before .before .put-last-line .kept .0 ∙ c .before .before .before .before .before .before .put-event2 .kept .0 ∙ sized _ _ _ _ _ _ _ _ _ _ (c .before .before .before .before .before .before .before .before .before .before .before .before .before .before .loop .inv)
 
 returns-2 : tie.Need-returns-2 Inv-loop μ-loop
-returns-2 c = stops _ _ _ _ _ _ _ _ (c .before .before .before .before .before .before .before .before .before .before .before .before .before .before .loop .inv) (c .before .before .before .before .before .before .before .before .before .before .before .before .before .before .before .before .before .before .pre .0) (c .before .before .before .before .before .before .before .before .before .before .before .before .before .before .before .before .before .before .pre .1) (c .before .before .before .before .before .before .before .before .before .before .before .before .before .before .before .before .before .before .pre .2) (c .before .before .before .before .before .before .before .before .before .before .before .before .before .before .before .before .before .before .pre .3) _ _ _ _ (c .before .before .before .before .before .before .before .before .before .before .before .before .before .loop-test .taken) (c .before .before .before .before .before .before .before .before .before .before .before .before .if1 .left) (rw (c .before .before .before .before .before .before .before .before .before .enum-told .given .1) at (c .before .before .before .before .before .before .before .before .before .before .before .read-event .ensures)) (c .before .before .before .before .before .before .put-event2 .ensures .0) (c .before .before .put-closing .ensures)
+returns-2 c = stops _ _ _ _ _ _ _ _ (c .before .before .before .before .before .before .before .before .before .before .before .before .before .before .loop .inv) (c .before .before .before .before .before .before .before .before .before .before .before .before .before .before .before .before .before .before .pre .0) (c .before .before .before .before .before .before .before .before .before .before .before .before .before .before .before .before .before .before .pre .1) (c .before .before .before .before .before .before .before .before .before .before .before .before .before .before .before .before .before .before .pre .2) (c .before .before .before .before .before .before .before .before .before .before .before .before .before .before .before .before .before .before .pre .3) _ _ _ _ (c .before .before .before .before .before .before .before .before .before .before .before .before .before .loop-test .taken) (c .before .before .before .before .before .before .before .before .before .before .before .before .if1 .left) (rw (c .before .before .before .before .before .before .before .before .before .enum-told .given .1) at (c .before .before .before .before .before .before .before .before .before .before .before .read-event .ensures)) (c .before .before .before .before .before .before .put-event2 .ensures .0) (c .before .before .put-last-line .ensures)
 
 same-length-3 : tie.Need-same-length-3 Inv-loop μ-loop
-same-length-3 c = c .before .before .put-closing2 .kept .0 ∙ sized _ _ _ _ _ _ _ _ _ _ (c .before .before .before .before .before .before .loop .inv)
+same-length-3 c = c .before .before .put-last-line2 .kept .0 ∙ sized _ _ _ _ _ _ _ _ _ _ (c .before .before .before .before .before .before .loop .inv)
 
 returns-3 : tie.Need-returns-3 Inv-loop μ-loop
-returns-3 c = ends _ _ _ _ _ _ _ _ (c .before .before .before .before .before .before .loop .inv) (c .before .before .before .before .before .before .before .before .before .before .pre .0) (c .before .before .before .before .before .before .before .before .before .before .pre .1) (c .before .before .before .before .before .before .before .before .before .before .pre .2) (c .before .before .before .before .before .before .before .before .before .before .pre .3) _ _ (c .before .before .before .before .before .loop-test .left) (c .before .before .put-closing2 .ensures)
+returns-3 c = ends _ _ _ _ _ _ _ _ (c .before .before .before .before .before .before .loop .inv) (c .before .before .before .before .before .before .before .before .before .before .pre .0) (c .before .before .before .before .before .before .before .before .before .before .pre .1) (c .before .before .before .before .before .before .before .before .before .before .pre .2) (c .before .before .before .before .before .before .before .before .before .before .pre .3) _ _ (c .before .before .before .before .before .loop-test .left) (c .before .before .put-last-line2 .ensures)
 
 pub put-events-spec : {M : Type 1} → statement M
 put-events-spec =
@@ -101,7 +101,7 @@ put-events-spec =
     (λ c. search needs)
     add-put-event
     put-event-requires-2
-    put-closing-requires
+    put-last-line-requires
     same-length-2
     returns-2
     (λ c κs. c .before .before .before .loop .inv .room)

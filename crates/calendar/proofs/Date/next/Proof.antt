@@ -9,10 +9,10 @@ use Rattle.calendar.proofs.Date.next.Statement.{statement}
 use Rattle.calendar.proofs.Date.next.Tie as tie
 
 reached-is : (c : tie.Else1) → inReach (c .before .before .args .self) ≡ true
-reached-is c = sym (c .before .is-reached .ensures) ∙ not-false _ (c .if1 .left)
+reached-is c = sym (c .before .in-reach .ensures) ∙ not-false _ (c .if1 .left)
 
 returns : tie.Need-returns
-returns c = simp (sym (c .before .is-reached .ensures) ∙ not-true _ (c .if1 .taken))
+returns c = simp (sym (c .before .in-reach .ensures) ∙ not-true _ (c .if1 .taken))
 
 returns-2 : tie.Need-returns-2
 unfolding nextOf

@@ -9,10 +9,10 @@ use Rattle.calendar.proofs.Date.weekday.Statement.{statement}
 use Rattle.calendar.proofs.Date.weekday.Tie as tie
 
 reached-is : (c : tie.Else1) → inReach (c .before .before .args .self) ≡ true
-reached-is c = sym (c .before .is-reached .ensures) ∙ not-false _ (c .if1 .left)
+reached-is c = sym (c .before .in-reach .ensures) ∙ not-false _ (c .if1 .left)
 
 returns : tie.Need-returns
-returns c = simp (sym (c .before .is-reached .ensures) ∙ not-true _ (c .if1 .taken))
+returns c = simp (sym (c .before .in-reach .ensures) ∙ not-true _ (c .if1 .taken))
 
 days-after-requires : tie.Need-days-after-requires
 days-after-requires c κs = reached-is c

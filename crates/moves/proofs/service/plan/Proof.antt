@@ -9,7 +9,7 @@ use borrow.Author.Tests.{lt-ltb, le-ltb, ltb-true, not-true, not-false}
 use Rattle.calendar.specs.Calendar.{weekdayOn}
 use Rattle.calendar.proofs.Sums.{leb-and}
 use Rattle.marks.specs.Marks.{weatherNear}
-use Rattle.moves.specs.Moves.{planOf, deferredOf}
+use Rattle.moves.specs.Moves.{planOf, deferringOf}
 use Rattle.moves.proofs.Ways.{yes, no}
 use Rattle.moves.proofs.Early.{Early, early}
 use Rattle.moves.proofs.service.plan.Statement.{statement}
@@ -31,11 +31,11 @@ unfolding planOf
 returns c = c .refuse .ensures ∙ sym (no _ _ _ (sym (c .before .before .allowed .ensures) ∙ not-true _ (c .before .if1 .taken)))
 
 returns-2 : tie.Need-returns-2
-unfolding planOf deferredOf
+unfolding planOf deferringOf
 returns-2 c = c .refuse2 .ensures ∙ sym (yes _ _ _ (sym (c .before .before .before .before .allowed .ensures) ∙ not-false _ (c .before .before .before .if1 .left)) ∙ yes _ _ _ (lt-ltb _ _ (c .before .if2 .taken)))
 
 returns-3 : tie.Need-returns-3
-unfolding planOf deferredOf
+unfolding planOf deferringOf
 returns-3 c = c .accept .ensures ∙ sym (yes _ _ _ (sym (c .before .before .before .before .before .before .before .before .before .allowed .ensures) ∙ not-false _ (c .before .before .before .before .before .before .before .before .if1 .left)) ∙ no _ _ _ (le-ltb _ _ (c .before .before .before .before .before .before .if2 .left)))
 
 pub plan-spec : {M : Type 1} → statement M

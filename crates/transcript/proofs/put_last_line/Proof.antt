@@ -1,4 +1,4 @@
--- `transcript::put_closing` meets its contract. Assumes nothing.
+-- `transcript::put_last_line` meets its contract. Assumes nothing.
 use mathlib.Core.Path.{sym}
 use mathlib.Core.List.{_++_}
 use Rattle.scanner.specs.Scanner.{bytes}
@@ -8,8 +8,8 @@ use Rattle.printing.proofs.Signs.{back}
 use Rattle.printing.proofs.Placed.{word-last, field-then}
 use Rattle.transcript.specs.Transcript.{lastLine}
 use borrow.Author.Needs.{needs}
-use Rattle.transcript.proofs.put_closing.Statement.{statement}
-use Rattle.transcript.proofs.put_closing.Tie as tie
+use Rattle.transcript.proofs.put_last_line.Statement.{statement}
+use Rattle.transcript.proofs.put_last_line.Tie as tie
 
 returns : tie.Need-returns
 unfolding lastLine
@@ -22,8 +22,8 @@ returns c =
     field-then (bytes " estimates=") (decimal (p .result)) 20 (length-decimal (p .result) (p .ok)) (c .before .before .before .before .before .before .before .put-field .ensures) 1 h1 (λ h2.
     word-last (c .before .before .put-bytes .ensures) h2)) .0)
 
-pub put-closing-spec : {M : Type 1} → statement M
-put-closing-spec =
+pub put-last-line-spec : {M : Type 1} → statement M
+put-last-line-spec =
     tie.close
     (tie.spec
     (λ c κs. search needs)
