@@ -38,7 +38,7 @@ nextOf d =
     (date (d .year) (d .month) (d .day + 1))
     (cond (ltb (d .month) 12) (date (d .year) (d .month + 1) 1) (date (d .year + 1) 1 1))
 
--- "Day k is that date plus k days."
+-- "Day k is that date plus k days"
 unfoldable pub dateOn : Date → ℕ → Date
 dateOn opened zero = opened
 dateOn opened (suc k) = nextOf (dateOn opened k)

@@ -45,7 +45,7 @@ nearOf marks w (suc d) left =
 
 -- ---- what the functions of this crate answer, for days 0 to 399
 
--- "A mark covers days `from` to `to`": setting a mark is an or with its bit.
+-- "A mark in L covers days `from` to `to`." Setting a mark is an or with its bit.
 unfoldable pub marked : List ℕ → ℕ → ℕ → ℕ → List ℕ
 marked marks kind from to = cond (leb to finalDay) (markRange marks (markBit kind) from (to + 1 - from)) marks
 
