@@ -54,7 +54,7 @@ serviceEffect l b = effect 0 0 (l .balance) (l .plan) b
 unfoldable pub estimateEffect : Terms → Ledger → Event → Effect
 estimateEffect t l e = balanceEffect l (usageCost t (l .list) e) (l .balance -ℤ pos (usageCost t (l .list) e))
 
--- "the old estimate's cost is given back and the read's cost taken"
+-- "the old estimate's cost is given back and the read's cost taken"; "Value: the new cost."
 unfoldable pub readEffect : Terms → Ledger → Event → Effect
 readEffect t l e =
     balanceEffect l (usageCost t (l .list) e)
@@ -69,7 +69,7 @@ unfoldable pub planEffect : Terms → Ledger → Effect
 planEffect t l = effect (deferred t l) 0 (pos (t .connect)) (l .plan + deferred t l) (l .on)
 
 -- "A credit raises B by its whole amount, a charge lowers it by its own; R stays."; "Service is then off."; "Service is then on."
--- A warn and a mark change none of the three. "the value 0 unless named here"
+-- A warn and a mark change neither B, R nor service. "the value 0 unless named here"
 unfoldable pub effectOf : Terms → Ledger → Event → Effect
 effectOf t l e =
     cond (isPay e) (payEffect t l e)
