@@ -24,7 +24,7 @@ openOf t = record { account = fresh t; code = termsCode t }
 abbrev pub IsOpened : Terms → Opened → Type 0
 IsOpened t r = r ≡ openOf t
 
--- where the event's payment, its usage day and its day are looked at
+-- the places of the event's payment, its usage day and its day
 abbrev pub numberAt : Event → ℕ
 numberAt e = e .number % maxPayments
 
@@ -34,11 +34,12 @@ usageAt e = e .usage % dayCount
 abbrev pub dayAt : Event → ℕ
 dayAt e = e .day % dayCount
 
--- the cells that the event may touch, as they are
+-- The cells that the event may touch, as they are. A number past the payments, or a day past the account's, is looked at by its remainder;
+-- the arrays have 128 payments, 400 days and 75 sums of charges by their types.
 abbrev pub cellsOf : Account → Event → Move
 cellsOf a e = cellsBefore (a .totals) (getD (a .payments) (numberAt e) noPayment) (getD (a .days) (usageAt e) blankDay) (a .charges) (a .warned) e
 
--- the cells written back
+-- the record with the cells written back
 abbrev pub withCells : Account → Event → Move → Account
 withCells a e m = record {
   terms = a .terms;
@@ -50,7 +51,7 @@ withCells a e m = record {
   charges = set (a .charges) (m .place) (m .sum);
 }
 
--- refused, the account is as it was; else the cells are written back
+-- Refused, the account is as it was; else the cells are written back.
 abbrev pub posted : Account → Event → Move → Posted
 posted a e m = record { account = cond (eqb (m .code) 0) (withCells a e m) a; code = m .code; value = m .value }
 

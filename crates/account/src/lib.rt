@@ -1,5 +1,5 @@
 // The account record and its step by value.
-// It uses the terms, the marks, the moves and the ledger's event; its promises cite specs/Step.antt.
+// It uses the calendar, the terms, the marks, the moves and the ledger's event. Its promises cite specs/Step.antt.
 use calendar::DAY_COUNT;
 use ledger::Event;
 use ledger::MAX_PAYMENTS;

@@ -38,7 +38,7 @@ nextOf d =
     (date (d .year) (d .month) (d .day + 1))
     (cond (ltb (d .month) 12) (date (d .year) (d .month + 1) 1) (date (d .year + 1) 1 1))
 
--- "Day k is that date plus k days."
+-- "Day k is that date plus k days"
 unfoldable pub dateOn : Date → ℕ → Date
 dateOn opened zero = opened
 dateOn opened (suc k) = nextOf (dateOn opened k)
@@ -82,7 +82,7 @@ inReach d = leb 2000 (d .year) && (leb (d .year) 2101 && dateExists (d .year) (d
 
 -- ---- what the functions of this crate answer
 
--- outside those dates: the same record, no weekday (7)
+-- outside those dates: the record as it is, and 7, which is no weekday
 abbrev pub nextAnswer : Date → Date
 nextAnswer d = cond (inReach d) (nextOf d) d
 
@@ -100,18 +100,18 @@ dayCount = finalDay + 1
 abbrev pub monthCount : ℕ
 monthCount = 15
 
--- A day of an account that opened on a date of 2000 to 2099.
+-- Whether the date can open an account and k is one of its days.
 abbrev pub isDay : Date → ℕ → Bool
 isDay opened k = opens opened && leb k finalDay
 
 abbrev pub dateAnswer : Date → ℕ → Dated
 dateAnswer opened k = cond (isDay opened k) (dated.On (dateOn opened k)) dated.Outside
 
--- no weekday: 7
+-- 7, which is no weekday, where there is no such day
 abbrev pub weekdayOn : Date → ℕ → ℕ
 weekdayOn opened k = cond (isDay opened k) (weekdayOf (dateOn opened k)) 7
 
--- no month: one past the last
+-- one past the last month where there is no such day
 abbrev pub monthOn : Date → ℕ → ℕ
 monthOn opened k = cond (isDay opened k) (monthFrom opened (dateOn opened k)) monthCount
 

@@ -7,13 +7,14 @@ use Rattle.calendar.specs.Calendar.{leapYear, monthDays, dateExists, tot
 use Rattle.calendar.specs.declared.Date.{Date}
 use Rattle.calendar.specs.declared.Place.{Place}
 
--- the sum of the earlier months' lengths
+-- the days of the year before month m
 unfoldable pub daysBefore : Bool → ℕ → ℕ
 daysBefore leap m = total (monthDays leap) m
 
 unfoldable pub yearLength : ℕ → ℕ
 yearLength y = cond (leapYear y) 366 365
 
+-- the place with one whole year taken out of its days, where they hold one
 abbrev pub yearTaken : Place → Place
 yearTaken p = cond (ltb (p .left) (yearLength (p .year))) p (record { year = p .year + 1; left = p .left - yearLength (p .year) })
 
@@ -24,6 +25,6 @@ pub record InYear (y left : ℕ) (r : Date) : Type 0 where
   pub month : r .month ≤ 12
   pub rest : daysBefore (leapYear y) (r .month) + (r .day - 1) ≡ left
 
--- the first of days 0 to 399 that lies in month m or later, or that there is none: 400
+-- the first of days 0 to 399 that lies in month m or later; 400 where there is none
 unfoldable pub monthStart : Date → ℕ → ℕ
 monthStart opened m = min dayCount (total lengthAfter (monthsAfter opened + m) - daysAfter opened)

@@ -27,7 +27,7 @@ pub record Seen : Type 0 where
   pub back : Back
   pub after : Readings
 
--- by the promises of the reading calls, of an account with these totals
+-- r is what the reading calls may answer of an account with these totals, by their promises
 pub record ShowsReadings (s : Totals) (r : Readings) : Type 0 where
   pub balance : IsBalance s (r .balance)
   pub plan : IsPlan s (r .plan)
@@ -47,6 +47,6 @@ RunsFrom a [] (v ∷ vs) = ⊥
 RunsFrom a (c ∷ cs) [] = ⊥
 RunsFrom a (c ∷ cs) (v ∷ vs) = (b : Account) × Called a c (v .back) b × ShowsReadings (b .totals) (v .after) × RunsFrom b cs vs
 
--- "the first a fresh one": by the promise of `account::open`, where it answers 0. Its readings are first. Else "no account made".
+-- "the first a fresh one": by the promise of `account::open`, where it answers 0, with the readings `first`; else "no account made".
 abbrev pub Runs : Terms → Readings → List Call → List Seen → Type 0
 Runs t first cs vs = (o : Opened) × IsOpened t o × (o .code ≡ 0) × ShowsReadings (o .account .totals) first × RunsFrom (o .account) cs vs

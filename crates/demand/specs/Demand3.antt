@@ -17,7 +17,7 @@ use Rattle.ledger.specs.Ledger.{opening, ledgerAfter}
 use Rattle.ledger.specs.Calls.{Call, Back, answered, written, fed, ledgerCalled, ledgerBack}
 use Rattle.demand.specs.Calls.{Readings, Seen, Runs}
 
--- what the ledger shows
+-- the readings off the ledger
 abbrev pub shows : Terms → Ledger → Readings
 shows t l = record {
   balance = l .balance;

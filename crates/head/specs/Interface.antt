@@ -1,4 +1,4 @@
--- What the calls of the C interface leave in the caller's memory, by the calls over images.
+-- What the calls of the C interface leave in the caller's memory and answer, by the calls over images.
 use Prim.Native.Nat.{ℕ}
 use mathlib.Core.Path.{_≡_}
 use mathlib.Core.List.{List}

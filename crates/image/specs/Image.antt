@@ -103,7 +103,7 @@ imageOf a = record {
   charges = a .charges;
 }
 
--- numbers that are no image stand for no account
+-- of numbers that are no image a record that is no account
 unfoldable pub accountOf : Image → Account
 accountOf i =
     cond (isImage i)
@@ -118,7 +118,7 @@ accountOf i =
     })
     (fresh zeroTerms)
 
--- and stay as they are
+-- the image after the record made of i has become a; numbers that are no image stay as they are
 unfoldable pub imageAfter : Image → Account → Image
 imageAfter i a = cond (isImage i) (imageOf a) i
 

@@ -1,5 +1,6 @@
 // The account record as numbers alone, for a head in C that keeps it in its own memory, and the calls over it by value.
-// It uses the account, the readings and the month's figures. Its promises cite specs/Image.antt.
+// It uses the calendar, the terms, the ledger's event, the moves, the account, the readings and the month's figures. Its promises cite
+// specs/Image.antt.
 use account::Account;
 use calendar::Date;
 use ledger::Event;

@@ -36,6 +36,7 @@ ledgerCodes t l [] = []
 ledgerCodes t l (e ∷ es) = ledgerStep t l e .answer .code ∷ ledgerCodes t (ledgerStep t l e .ledger) es
 
 -- "A row longer than its lent buffer ..: its answer is 16"; of any other "its own answer is 0", and "Bytes past the row's length do not change."
+-- "Code 16 precedes every posting."; "an empty row is 0 and changes nothing"
 unfoldable pub ledgerBack : Terms → Ledger → Call → Back
 ledgerBack t l (single e) = answered (ledgerStep t l e .answer)
 ledgerBack t l (row es buffer) =

@@ -41,12 +41,13 @@ sumOf p f l = sum (λ (x : Entry) (before : Entries). cond (p x before) (f x) 0)
 abbrev pub amountOf : Entry → ℕ
 amountOf x = x .event .amount
 
--- The newest entry that f picks, each with those accepted before it. (Every use picks one at the most.)
+-- The newest entry that f picks, each with those accepted before it. In the ledger's L every use picks one at the most.
 unfoldable pub find : (Entry → Entries → Bool) → Entries → Option Entry
 find f [] = none
 find f (x ∷ l) = cond (f x l) (some x) (find f l)
 
--- f of what is found; 0 where there is nothing
+-- f of what is found; 0 where there is nothing. The 0 never counts: a reverse of a payment that is not there is refused by 6, and the Wh of a
+-- usage day are asked only of an event that L has.
 abbrev pub orZero : (Entry → ℕ) → Option Entry → ℕ
 orZero f none = 0
 orZero f (some x) = f x
@@ -67,7 +68,7 @@ hasNumber n x before = isPay (x .event) && eqb (paymentCount before) n
 unfoldable pub payment : Entries → ℕ → Option Entry
 payment l n = find (hasNumber n) l
 
--- its day, its amount, and what of it went to the plan
+-- payment n's day, its amount, and what of it went to the plan
 abbrev pub paidOn : Entries → ℕ → ℕ
 paidOn l n = orZero (λ (x : Entry). x .event .day) (payment l n)
 
@@ -137,7 +138,7 @@ estimateCost blank = 0
 estimateCost (estimated wh cost) = cost
 estimateCost (metered wh cost) = 0
 
--- "A mark in L covers days `from` to `to`."
+-- "A mark in L covers days `from` to `to`."; "each is set once or many times alike"
 unfoldable pub covered : Entries → ℕ → ℕ → Bool
 covered l kind d = any (λ (e : Event). isMark e && (eqb (e .kind) kind && (leb (e .from) d && leb d (e .to)))) l
 

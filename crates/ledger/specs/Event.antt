@@ -39,10 +39,11 @@ isDisconnect e = eqb (e .sort) 10
 abbrev pub isConnect : Event → Bool
 isConnect e = eqb (e .sort) 11
 
--- the largest amount, in cents, and the largest reading
+-- "amount (1 to 10,000,000)": the largest, in cents
 abbrev pub maxAmount : ℕ
 maxAmount = 10000000
 
+-- "wh (0 to 9,999,999)": the largest Wh of an estimate or a read
 abbrev pub maxWh : ℕ
 maxWh = 9999999
 
@@ -58,17 +59,18 @@ whInLimits e = leb (e .wh) maxWh
 abbrev pub markDaysInLimits : Event → Bool
 markDaysInLimits e = leb (e .day) (e .from) && (leb (e .from) (e .to) && leb (e .to) finalDay)
 
--- "Charge kinds 1 to 5"; mark "1 extreme weather emergency, 2 payment means down, 3 confirmed assistance pledge";
--- plan "Kind 1, required", "Kind 2, offered".
+-- "Charge kinds 1 to 5"
 abbrev pub chargeKindCount : ℕ
 chargeKindCount = 5
 
 abbrev pub isChargeKind : ℕ → Bool
 isChargeKind k = within 1 chargeKindCount k
 
+-- a mark's: "1 extreme weather emergency, 2 payment means down, 3 confirmed assistance pledge"
 abbrev pub isMarkKind : ℕ → Bool
 isMarkKind k = within 1 3 k
 
+-- a plan's: "Kind 1, required"; "Kind 2, offered"
 abbrev pub isPlanKind : ℕ → Bool
 isPlanKind k = within 1 2 k
 

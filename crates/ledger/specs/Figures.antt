@@ -34,13 +34,14 @@ shown f = shownBy (run (f .terms) (record { ledger = opening; answer = answer 0 
 
 -- ---- the events, by their words: the day, then the fields
 
--- of sort s: amount, kind, usage day and Wh, from and to
+-- an event of sort s on day x: amount, kind, usage day and Wh, from and to
 abbrev pub event : ℕ → ℕ → ℕ → ℕ → ℕ → ℕ → ℕ → ℕ → Event
 event s x n k u w from to = record { sort = s; day = x; amount = n; number = 0; kind = k; usage = u; wh = w; from = from; to = to }
 
 abbrev pub pay : ℕ → ℕ → Event
 pay x n = event 1 x n 0 0 0 0 0
 
+-- of kind 1
 abbrev pub charge : ℕ → ℕ → Event
 charge x n = event 4 x n 1 0 0 0 0
 

@@ -20,10 +20,10 @@ abbrev pub UsedBefore : ℕ → Entry → Type 0
 UsedBefore d x = (isEstimate (x .event) || isRead (x .event)) ≡ true → x .event .usage < d
 
 pub record Invariant (t : Terms) (l : Ledger) : Type 0 where
-  -- B is what the sums over L and the unpaid plan make it
+  -- B, by the sums over L and the unpaid plan
   pub identity : l .balance
       ≡ pos (keptTotal (l .list) + creditTotal (l .list) + l .plan) -ℤ pos (chargeTotal (l .list) + readCost t (l .list) + standingCost t (l .list))
-  -- of the terms: enough for `parts`; their limit is 50
+  -- the share's limit is 50; at most 100 is enough for `parts`
   pub share : t .share ≤ 100
   -- only a payment that was made is reversed
   pub numbers : (n : ℕ) → reversed (l .list) n ≡ true → n < paymentCount (l .list)

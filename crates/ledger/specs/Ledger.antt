@@ -42,11 +42,11 @@ reverseEffect l e =
     let part : ℕ = paidPart (l .list) (e .number) in
     effect 0 0 (l .balance -ℤ pos (paidAmount (l .list) (e .number) - part)) (l .plan + part) (l .on)
 
--- of B alone
+-- an effect on B alone, with value v
 abbrev pub balanceEffect : Ledger → ℕ → ℤ → Effect
 balanceEffect l v b = effect v 0 b (l .plan) (l .on)
 
--- of service alone
+-- an effect on service alone, with value 0
 abbrev pub serviceEffect : Ledger → Bool → Effect
 serviceEffect l b = effect 0 0 (l .balance) (l .plan) b
 
@@ -54,22 +54,22 @@ serviceEffect l b = effect 0 0 (l .balance) (l .plan) b
 unfoldable pub estimateEffect : Terms → Ledger → Event → Effect
 estimateEffect t l e = balanceEffect l (usageCost t (l .list) e) (l .balance -ℤ pos (usageCost t (l .list) e))
 
--- "the old estimate's cost is given back and the read's cost taken"
+-- "the old estimate's cost is given back and the read's cost taken"; "Value: the new cost."
 unfoldable pub readEffect : Terms → Ledger → Event → Effect
 readEffect t l e =
     balanceEffect l (usageCost t (l .list) e)
     (l .balance +ℤ pos (estimateCost (usageDay t (l .list) (e .usage))) -ℤ pos (usageCost t (l .list) e))
 
--- "It defers D = connect − B." B is below 0, so D is above 0 and is its own magnitude.
+-- "It defers D = connect − B": of an accepted plan B is below 0, so D is above 0 and is its own magnitude.
 unfoldable pub deferred : Terms → Ledger → ℕ
 deferred t l = natAbs (pos (t .connect) -ℤ l .balance)
 
--- "B becomes `connect` and R rises by D. Value: D."
+-- "B becomes `connect` and R rises by D"; "Value: D."
 unfoldable pub planEffect : Terms → Ledger → Effect
 planEffect t l = effect (deferred t l) 0 (pos (t .connect)) (l .plan + deferred t l) (l .on)
 
 -- "A credit raises B by its whole amount, a charge lowers it by its own; R stays."; "Service is then off."; "Service is then on."
--- A warn and a mark change nothing.
+-- A warn and a mark change neither B, R nor service. "the value 0 unless named here"
 unfoldable pub effectOf : Terms → Ledger → Event → Effect
 effectOf t l e =
     cond (isPay e) (payEffect t l e)
@@ -99,7 +99,7 @@ pub record Outcome : Type 0 where
   pub ledger : Ledger
   pub answer : Answer
 
--- the number by which the table refuses the event; 0 where it is accepted
+-- The number by which the table refuses the event. "A granted or accepted event has code 0."
 unfoldable pub refusal : Terms → Ledger → Event → ℕ
 refusal t l e = firstOf (refusals t l e)
 
@@ -107,7 +107,7 @@ abbrev pub accepts : Terms → Ledger → Event → Bool
 accepts t l e = eqb (refusal t l e) 0
 
 -- "Its step: if the table below refuses the event, the answer is that code with value 0, and the ledger stays as it is.
--- Otherwise the answer is 0 with the value above."
+-- Otherwise the answer is 0 with the value above"
 unfoldable pub ledgerStep : Terms → Ledger → Event → Outcome
 ledgerStep t l e =
     cond (accepts t l e)

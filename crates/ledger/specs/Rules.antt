@@ -20,13 +20,15 @@ pub record Ledger : Type 0 where
   pub plan : ℕ
   pub on : Bool
 
--- "Each accepted event counts towards 4,096."; "At most 128 payments."; "B ≤ −5,000"
+-- "Each accepted event counts towards 4,096."
 abbrev pub maxEvents : ℕ
 maxEvents = 4096
 
+-- "At most 128 payments."
 abbrev pub maxPayments : ℕ
 maxPayments = 128
 
+-- "Kind 1, required: B ≤ −5,000": the debt
 abbrev pub requiredDebt : ℕ
 requiredDebt = 5000
 
@@ -49,7 +51,7 @@ dayRefused l e = ltb (e .day) (lastDay (l .list)) || ltb finalDay (e .day)
 abbrev pub isFull : Ledger → Bool
 isFull l = leb maxEvents (length (l .list))
 
--- "service is on, the balance is below the cutoff, an accepted warning is one to seven days old, and the day is not barred"
+-- Demand 3: "service is on, the balance is below the cutoff, an accepted warning is one to seven days old, and the day is not barred"
 abbrev pub MayCut : Terms → Ledger → Event → Type 0
 MayCut t l e =
     (l .on ≡ true)
@@ -57,7 +59,9 @@ MayCut t l e =
     × (warned (l .list) (e .day) ≡ true)
     × (barred t (l .list) (e .day) ≡ false)
 
--- The table, each number with when it applies. "Several apply: the lowest number of 1 to 14": its order is the rule.
+-- The table, each number with when it applies. "Several apply: the lowest number of 1 to 14": its order is the rule. The numbers ascend, so
+-- the first that applies is the lowest. 1 is of the terms: "no account made", so the table starts at 2.
+-- 6: "Once per payment". 12: "R is not counted." 12 and 14: a connect is "granted if service is off and B ≥ `connect`, on any day".
 unfoldable pub refusals : Terms → Ledger → Event → List Rule
 refusals t l e =
     (2, dayRefused l e)

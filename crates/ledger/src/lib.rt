@@ -18,11 +18,12 @@ pub struct Event {
     pub to: u32,
 }
 
-// The largest amount, in cents, and the largest reading.
+// The largest amount, in cents.
 pub const MAX_AMOUNT: u32 = 10000000;
 
 pub const CHARGE_KIND_COUNT: u32 = 5;
 
+// The largest Wh of an estimate or a read.
 pub const MAX_WH: u32 = 9999999;
 
 // "Each accepted event counts towards 4,096."; "At most 128 payments."; a plan is required from B of -5,000 down.
@@ -53,7 +54,8 @@ pub struct Used {
     pub cost: u64,
 }
 
-// A month's figures (specs/Months.antt). The code is 3 for a month that holds none of the account's days, and 1 where there is no account; every figure is 0 then.
+// A month's figures (specs/Months.antt). The code is 3 for a month that holds none of the account's days, and 1 where there is no account;
+// every figure is 0 then.
 #[repr(C)]
 pub struct Summary {
     pub code: u8,

@@ -1,5 +1,5 @@
 // The limits of an event's fields (code 3).
-// It uses the ledger's event. Its promise cites the ledger's specs/Event.antt.
+// It uses the calendar, and the ledger's event and limits. Its promise cites the ledger's specs/Event.antt.
 use ledger::Event;
 ghost use mathlib.Core.Path.{_≡_};
 ghost use mathlib.Core.Bool.{cond, _&&_};

@@ -9,7 +9,7 @@ use Rattle.calendar.specs.Calendar.{finalDay}
 use Rattle.marks.specs.declared.Found.{Found}
 use Rattle.marks.specs.declared.Found.the-variants.{At, Missing}
 
--- the bit of a mark kind in a day's byte
+-- the bit of a mark kind in a day's byte; none for a number that is no kind
 abbrev pub markBit : ℕ → ℕ
 markBit kind = cond (eqb kind 1) 1 (cond (eqb kind 2) 2 (cond (eqb kind 3) 4 0))
 
@@ -30,9 +30,11 @@ abbrev pub isMissing : Found → Bool
 isMissing (At d) = false
 isMissing Missing = true
 
+-- the weekday before w
 abbrev pub dayBefore : ℕ → ℕ
 dayBefore w = cond (eqb w 0) 6 (w - 1)
 
+-- how many of `left` business days are left once a day of weekday w is counted
 abbrev pub businessLeft : ℕ → ℕ → ℕ
 businessLeft w left = cond (leb 5 w) left (left - 1)
 
@@ -45,7 +47,7 @@ nearOf marks w (suc d) left =
 
 -- ---- what the functions of this crate answer, for days 0 to 399
 
--- "A mark covers days `from` to `to`": setting a mark is an or with its bit.
+-- "A mark in L covers days `from` to `to`." Setting a mark is an or with its bit.
 unfoldable pub marked : List ℕ → ℕ → ℕ → ℕ → List ℕ
 marked marks kind from to = cond (leb to finalDay) (markRange marks (markBit kind) from (to + 1 - from)) marks
 

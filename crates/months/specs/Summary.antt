@@ -99,7 +99,7 @@ figuresBy kept reversed meteredUse estimatedUse charges =
     })
     (noSummary 1)
 
--- over the days that have q
+-- over the days that have q, with the charges of month m
 unfoldable pub summaryBy : (ℕ → Bool) → Account → ℕ → Summary
 summaryBy q a m =
     cond (anyDay q dayCount)

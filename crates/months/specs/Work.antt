@@ -1,4 +1,4 @@
--- What the private functions answer. No promise to others cites these.
+-- What the private functions of the month summary answer. No promise to others cites these.
 use Prim.Native.Nat.{ℕ, _+_, _*_, _≤_}
 use mathlib.Core.Bool.{Bool, _&&_}
 use mathlib.Core.List.{List}
@@ -33,7 +33,7 @@ withPayment q s x = record { kept = withCounted q paymentKept (s .kept) x; rever
 unfoldable pub paidBy : (ℕ → Bool) → List Payment → ℕ → Paid
 paidBy q l n = record { kept = countedBy q paymentKept l n; reversed = countedBy q paymentReversed l n }
 
--- how far n payments can take them
+-- the counts and sums of n payments are at most these
 pub record PaidTo (n : ℕ) (s : Paid) : Type 0 where
   pub kept-count : s .kept .count ≤ n
   pub kept-sum : s .kept .sum ≤ n * 4294967295
@@ -51,7 +51,7 @@ withDay s u = record { metered = withUsage (s .metered) (meteredWh (stateOf u)) 
 unfoldable pub usedBy : (ℕ → Bool) → List Day → ℕ → Usages
 usedBy q l n = record { metered = meteredBy q l n; estimated = estimatedBy q l n }
 
--- how far n usage days can take them
+-- the Wh and costs of n usage days are at most these
 pub record UsedTo (n : ℕ) (s : Usages) : Type 0 where
   pub metered-wh : s .metered .wh ≤ n * 4294967295
   pub metered-cost : s .metered .cost ≤ n * 4294967295

@@ -1,5 +1,5 @@
 // A month's figures off the account record.
-// It uses the calendar, the moves and the account. The promise says the figures twice: off the record, and in the ledger's terms.
+// It uses the calendar, the ledger, the moves and the account. The promise says the figures twice: off the record, and in the ledger's terms.
 use account::Account;
 use ledger::Counted;
 use ledger::Summary;

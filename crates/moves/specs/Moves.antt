@@ -20,8 +20,8 @@ use Rattle.moves.specs.declared.Payment.{Payment}
 use Rattle.moves.specs.declared.Totals.{Totals}
 use Rattle.moves.specs.declared.Move.{Move}
 
--- No list of events takes a total past 2 ^ 60, or the payments past their limit: a record that has is no account of this software's, nor is one whose
--- terms are outside their limits.
+-- No list of events takes a total past 2 ^ 60, or the payments past their limit: a record where one is past it is no account of this
+-- software's, nor is one whose terms are outside their limits.
 abbrev pub maxTotal : ℕ
 maxTotal = 1152921504606846976
 
@@ -30,7 +30,7 @@ isAccount t s =
     eqb (termsCode t) 0
     && (leb (s .credit) maxTotal && (leb (s .debit) maxTotal && (leb (s .plan) maxTotal && (leb (s .standing) maxTotal && leb (s .count) maxPayments))))
 
--- 1 for no account; 2; 3; 4; else 0
+-- 1 where the record is no account, then 2, 3 or 4; else 0
 unfoldable pub earlyCode : Terms → Totals → Event → ℕ
 earlyCode t s e =
     cond (isAccount t s)
@@ -91,7 +91,7 @@ move code value totals number payment day place sum warned kind from to = record
   to = to;
 }
 
--- the answer and the totals
+-- m with this answer and these totals; below, with another payment, usage day, sum of charges, warning byte or mark
 abbrev pub answering : Move → ℕ → ℕ → Totals → Move
 answering m code value s = move code value s (m .number) (m .payment) (m .day) (m .place) (m .sum) (m .warned) (m .kind) (m .from) (m .to)
 
@@ -257,7 +257,7 @@ bySort t m charges marks warned e k =
     (cond (eqb k 10) (disconnectOf t m marks warned e)
     (cond (eqb k 11) (connectOf t m e) (refusing m 3)))))))))))
 
--- A refusal of every sort first, then the sort's own.
+-- The refusals that every sort has come first, then the sort's own.
 unfoldable pub moveOf : Terms → Move → List ℕ → List ℕ → List ℕ → Event → Move
 moveOf t m charges marks warned e =
     cond (eqb (earlyCode t (m .totals) e) 0) (bySort t m charges marks warned e (e .sort)) (refusing m (earlyCode t (m .totals) e))

@@ -28,7 +28,7 @@ pub record Row : Type 0 where
   pub bytes : List ℕ
   pub answer : ℕ
 
--- "16: lent buffer shorter than the row: nothing posted, nothing written"; else each event posted in order, its code in its own byte,
+-- 16: "lent buffer shorter than the row"; "nothing posted, nothing written". Else each event is posted in order, its code in its own byte:
 -- "Bytes past the row's length do not change. The row's own answer is 0".
 unfoldable pub rowOf : Account → List Event → List ℕ → Row
 rowOf a es buffer =

@@ -1,5 +1,5 @@
 // The posting calls over a lent account: one event, and a row of events.
-// It uses the account's step. Its promises cite specs/Posting.antt: by the step, and in the ledger's terms.
+// It uses the account's step and the ledger's event. Its promises cite specs/Posting.antt: by the step, and in the ledger's terms.
 use account::Account;
 use account::Posted;
 use account::step;

@@ -1,5 +1,6 @@
 // `prepay`: an event text on standard input, its transcript on standard output.
-// It uses the transcript and the kit's reading and writing. A text that is too long fills the buffer, which is one byte longer.
+// It uses the event text's limit, the transcript, and the kit's reading and writing.
+// A text that is too long fills the buffer, which is one byte longer.
 use libc::STDIN_FILENO;
 use libc::STDOUT_FILENO;
 

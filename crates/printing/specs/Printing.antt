@@ -7,7 +7,7 @@ use lib.ListN.{length, take, drop}
 use lib.Dec.{ltb, leb}
 use lib.IntN.{ℤ, pos, negsuc}
 
--- a number in base ten, without leading zero, zero being `0`, by `more`: the digits of its tenth
+-- a number in base ten, without leading zero, zero being `0`; `more` gives the digits of its tenth, rounded down
 abbrev pub digitsBy : (ℕ → List ℕ) → ℕ → List ℕ
 digitsBy more n = cond (ltb n 10) ((48 + n) ∷ []) (more (n / 10) ++ ((48 + n % 10) ∷ []))
 
@@ -33,14 +33,15 @@ signed (negsuc n) = 45 ∷ decimal (suc n)
 unfoldable pub fits : List ℕ → ℕ → List ℕ → Bool
 fits buffer at bytes = leb (at + length bytes) (length buffer)
 
--- the buffer with them there
+-- the buffer with the bytes from place `at` on
 unfoldable pub over : List ℕ → ℕ → List ℕ → List ℕ
 over buffer at bytes = take at buffer ++ (bytes ++ drop (at + length bytes) buffer)
 
--- The buffer, and the place after the bytes. Where they do not fit, nothing is put.
+-- the same where the bytes fit; else nothing is put
 unfoldable pub put : List ℕ → ℕ → List ℕ → List ℕ
 put buffer at bytes = cond (fits buffer at bytes) (over buffer at bytes) buffer
 
+-- the place after the bytes; `at` where they do not fit
 unfoldable pub placeAfter : List ℕ → ℕ → List ℕ → ℕ
 placeAfter buffer at bytes = cond (fits buffer at bytes) (at + length bytes) at
 

@@ -1,5 +1,5 @@
 // The reading calls: balance, unpaid plan, service, settled amount, cost of the standing estimates.
-// It uses the account's totals. Each promise says the answer twice: off the totals, and in the ledger's terms.
+// It uses the moves' totals. Each promise says the answer twice: off the totals, and in the ledger's terms.
 use moves::MAX_TOTAL;
 use moves::Totals;
 ghost use mathlib.Core.Path.{_≡_};

@@ -61,7 +61,7 @@ pub record TotalsAgree (t : Terms) (s : Totals) (l : Ledger) : Type 0 where
   pub standing : s .standing ≡ standingCost t (l .list)
   pub count : s .count ≡ paymentCount (l .list)
 
--- how far a total can be after so many events
+-- what the totals are at most, by the count of events
 pub record Bounds (s : Totals) : Type 0 where
   pub full : s .events ≤ maxEvents
   pub count : s .count ≤ maxPayments
@@ -81,6 +81,7 @@ pub record CellsAgree (t : Terms) (a : Account) (l : Entries) : Type 0 where
   pub charges : (m k : ℕ) → m < monthCount → k < chargeKindCount → getD (a .charges) (5 * m + k) 0 ≡ chargesIn t l m (suc k)
   pub charged : (m k : ℕ) → chargesIn t l m k ≤ length l * maxAmount
 
+-- the lengths of the arrays
 pub record Sizes (a : Account) : Type 0 where
   pub payments : length (a .payments) ≡ maxPayments
   pub days : length (a .days) ≡ dayCount
@@ -88,6 +89,7 @@ pub record Sizes (a : Account) : Type 0 where
   pub warned : length (a .warned) ≡ dayCount
   pub charges : length (a .charges) ≡ monthCount * chargeKindCount
 
+-- the same terms, within their limits, and each field of the record what the ledger reads off the terms and L
 pub record Agree (t : Terms) (a : Account) (l : Ledger) : Type 0 where
   pub terms : a .terms ≡ t
   pub valid : validTerms t ≡ true
@@ -96,7 +98,7 @@ pub record Agree (t : Terms) (a : Account) (l : Ledger) : Type 0 where
   pub kept : CellsAgree t a (l .list)
   pub sizes : Sizes a
 
--- The record represents the ledger: they agree, and the ledger's sums add up.
+-- The record represents the ledger: they agree, and the ledger's invariant holds.
 pub record Represents (t : Terms) (a : Account) (l : Ledger) : Type 0 where
   pub agree : Agree t a l
   pub invariant : Invariant t l

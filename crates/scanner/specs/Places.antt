@@ -1,4 +1,4 @@
--- What the functions inside the scanner answer.
+-- What the scanner's private functions answer.
 use Prim.Native.Nat.{ℕ, _+_, _-_, _≤_, _<_}
 use mathlib.Core.Path.{_≡_}
 use mathlib.Core.Bool.{cond}

@@ -27,17 +27,18 @@ pub data Read (A : Type 0) : Type 0 where
   got : A → List ℕ → Read A
   broken : Read A
 
--- one thing after the other
+-- what f reads from the bytes after what was read; broken where that was
 abbrev pub then : {A B : Type 0} → Read A → (A → List ℕ → Read B) → Read B
 then (got a s) f = f a s
 then broken f = broken
 
 -- ---- lines
 
--- a line feed; a hyphen
+-- a line feed
 abbrev pub feed : ℕ
 feed = 10
 
+-- a hyphen
 abbrev pub hyphen : ℕ
 hyphen = 45
 
@@ -46,7 +47,7 @@ unfoldable pub readLine : List ℕ → Read (List ℕ)
 readLine [] = broken
 readLine (b ∷ s) = cond (eqb b feed) (got [] s) (then (readLine s) (λ (l r : List ℕ). got (b ∷ l) r))
 
--- what stands after the prefix
+-- the bytes after the prefix, if they start with it
 unfoldable pub afterPrefix : List ℕ → List ℕ → Read (List ℕ)
 afterPrefix [] s = got s []
 afterPrefix (p ∷ ps) [] = broken
@@ -65,7 +66,7 @@ unfoldable pub allDigits : List ℕ → Bool
 allDigits [] = true
 allDigits (b ∷ s) = isDigit b && allDigits s
 
--- in base ten
+-- the number that the digits of n and these digits make, in base ten
 unfoldable pub valueFrom : ℕ → List ℕ → ℕ
 valueFrom n [] = n
 valueFrom n (b ∷ s) = valueFrom (n * 10 + (b - 48)) s
@@ -81,10 +82,11 @@ readNumber key s = then (readValue key s) (λ (v r : List ℕ). cond (isNumber v
 
 -- ---- dates
 
--- the two digits at a place, and their number
+-- whether two digits stand at a place
 abbrev pub areDigits : List ℕ → ℕ → Bool
 areDigits v i = isDigit (getD v i 0) && isDigit (getD v (i + 1) 0)
 
+-- their number
 abbrev pub twoDigits : List ℕ → ℕ → ℕ
 twoDigits v i = (getD v i 0 - 48) * 10 + (getD v (i + 1) 0 - 48)
 

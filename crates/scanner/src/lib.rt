@@ -1,5 +1,6 @@
 // The lines of an event text: a line's key and its value, and a value as a number, a date or a word.
-// It uses the calendar's date, and in its definitions the terms' `within`. Its promises cite specs/Scanner.antt, and inside the crate specs/Places.antt.
+// It uses the calendar's date, and in its definitions the terms' `within`. Its promises cite specs/Scanner.antt, and inside the crate
+// specs/Places.antt.
 use calendar::Date;
 ghost use mathlib.Core.Path.{_≡_};
 ghost use Prim.Native.Nat.{_+_, _≤_};

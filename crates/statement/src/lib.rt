@@ -1,5 +1,6 @@
 // What `summary` prints for a text: its month figures, put whole into a lent buffer.
-// It uses the event text, the posting call, the month's figures and the printing. Its promise cites specs/Statement.antt.
+// It uses the calendar, the terms, the account, the event text, the posting call, the month's figures and the printing. Its promise cites
+// specs/Statement.antt.
 use account::Account;
 use calendar::MONTH_COUNT;
 use ledger::Summary;

@@ -1,5 +1,6 @@
 // `summary`: an event text on standard input, a line for each month of the account on standard output.
-// It uses the statement and the kit's reading and writing. A text that is too long fills the buffer, which is one byte longer.
+// It uses the event text's limit, the statement, and the kit's reading and writing.
+// A text that is too long fills the buffer, which is one byte longer.
 use libc::STDIN_FILENO;
 use libc::STDOUT_FILENO;
 

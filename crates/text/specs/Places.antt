@@ -1,4 +1,4 @@
--- What the functions inside this crate answer, by places in the text.
+-- What the private functions of this crate answer, by places in the text.
 use Prim.Native.Nat.{ℕ, _≤_}
 use mathlib.Core.Path.{_≡_}
 use mathlib.Core.Bool.{cond}

@@ -40,19 +40,21 @@ pub record FieldLine : Type 0 where
   pub field : Field
   pub asked : Event → Bool
 
--- one that stands there always
+-- a line that stands there whatever was read before it
 abbrev pub fieldLine : List ℕ → Field → FieldLine
 fieldLine key field = record { key = key; field = field; asked = λ (e : Event). true }
 
+-- A sort of events: its number, its word and the lines of its fields.
 pub record SortRow : Type 0 where
   pub sort : ℕ
   pub word : List ℕ
   pub fields : List FieldLine
 
--- a row and a line, by the words that the paper prints
+-- a sort's row, by its word as the paper prints it
 abbrev pub sortRow : ℕ → String → List FieldLine → SortRow
 sortRow sort word fields = record { sort = sort; word = bytes word; fields = fields }
 
+-- a line, by its key as the paper prints it
 abbrev pub under : String → Field → FieldLine
 under key field = fieldLine (bytes key) field
 
@@ -87,7 +89,7 @@ readSort s = then (readValue (bytes "do") s) (λ (v r : List ℕ). cond (eqb (so
 
 -- ---- an event: "per event `day`, `do`, and its fields"
 
--- An event of that day and sort; a field that its sort does not name is 0.
+-- An event of that day and sort, before its fields are read: 0, and so it stays where the sort does not name the field.
 abbrev pub eventOf : ℕ → ℕ → Event
 eventOf day sort = record { sort = sort; day = day; amount = 0; number = 0; kind = 0; usage = 0; wh = 0; from = 0; to = 0 }
 
@@ -138,7 +140,7 @@ abbrev pub TermsAt : List ℕ → TermsRead → Type 0
 TermsAt s (terms-read.Got t next) = (readTerms s ≡ got t (drop next s)) × (next ≤ length s)
 TermsAt s terms-read.Broken = readTerms s ≡ broken
 
--- The event at that place, and the place of what follows. The shortest event, `day=0` and `do=warn`, has 14 bytes.
+-- The event at a place, and the place of what follows. The shortest event, `day=0` and `do=warn`, has 14 bytes.
 abbrev pub EventAt : List ℕ → ℕ → EventRead → Type 0
 EventAt s at (event-read.Got e next) = (readEvent (drop at s) ≡ got e (drop next s)) × (at + 14 ≤ next) × (next ≤ length s)
 EventAt s at event-read.Broken = readEvent (drop at s) ≡ broken

@@ -34,14 +34,15 @@ remaining s p = cond (unprinted p) (cond (eqb (p .code) 0) (linesFrom s (p .acco
 abbrev pub progressOf : Account → ℕ → ℕ → ℕ → ℕ → Bool → Progress
 progressOf a at count code n done = record { account = a; at = at; count = count; code = code; length = n; done = done }
 
--- the same place, with n bytes put; a place among the events of good terms
+-- the place of p, with n bytes put
 abbrev pub withLength : Progress → ℕ → Bool → Progress
 withLength p n done = progressOf (p .account) (p .at) (p .count) (p .code) n done
 
+-- a place among the events after good terms, with n bytes put
 abbrev pub amongEvents : Account → ℕ → ℕ → ℕ → Bool → Progress
 amongEvents a at count n done = progressOf a at count 0 n done
 
--- the longest line of an event, the longest last line, and both
+-- the bytes that an event's line has at most, that the last line has at most, and that both have
 abbrev pub eventRoom : ℕ
 eventRoom = 114
 
@@ -72,7 +73,7 @@ eventsPiece (suc k) room s a at count n = pieceBy (eventsPiece k room s) room s 
 abbrev pub pieceFrom : ℕ → List ℕ → Account → ℕ → ℕ → ℕ → Progress
 pieceFrom room s a at count n = eventsPiece (suc (length s - at)) room s a at count n
 
--- after the next piece, in a buffer of `room` bytes
+-- the progress after the next piece, in a buffer of `room` bytes
 abbrev pub pieceOf : List ℕ → Progress → ℕ → Progress
 pieceOf s p room =
     cond (ltb room pieceRoom) (withLength p 0 (p .done))
@@ -100,7 +101,7 @@ pub record Piece (s : List ℕ) (p : Progress) (before after : List ℕ) (q : Pr
 abbrev pub startOf : Terms → ℕ → ℕ → Progress
 startOf t at code = progressOf (openOf t .account) at 0 code 0 false
 
--- before the first piece
+-- the progress before the first piece
 abbrev pub begunOf : List ℕ → Progress
 begunOf s = cond (ltb maxText (length s)) (startOf zeroTerms 0 15)
     (elim (readTerms s) [

@@ -39,13 +39,15 @@ linesFold {S} step code value line last = record {
   end = λ (x : S × ℕ). last (x .0);
 }
 
--- the ledger's
+-- the line of an event, by the ledger after it
 abbrev pub ledgerLine : ℕ → ℕ → ℕ → Ledger → List ℕ
 ledgerLine n code value l = eventLine n code value (l .balance) (l .plan)
 
+-- the last line, by the ledger
 abbrev pub ledgerLastLine : Terms → Ledger → List ℕ
 ledgerLastLine t l = lastLine (settled t (l .list)) (standingCost t (l .list))
 
+-- the lines of events by the ledger's step
 abbrev pub ledgerLines : Terms → Fold (Ledger × ℕ) (List ℕ)
 ledgerLines t =
     linesFold (λ (l : Ledger) (e : Event). ledgerStep t l e .ledger)
@@ -67,10 +69,11 @@ byTerms lines broken = termsLine 15
 abbrev pub byText : (Terms → List ℕ → List ℕ) → List ℕ → List ℕ
 byText lines s = cond (ltb maxText (length s)) (termsLine 15) (byTerms lines (readTerms s))
 
--- what `prepay` prints
+-- what is printed after good terms: the lines of all events, from the opening ledger on
 abbrev pub allLines : Terms → List ℕ → List ℕ
 allLines t r = foldEvents (ledgerLines t) (opening, 1) r
 
+-- what `prepay` prints
 unfoldable pub transcript : List ℕ → List ℕ
 transcript s = byText allLines s
 

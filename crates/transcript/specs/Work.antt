@@ -9,13 +9,15 @@ use Rattle.readings.specs.Readings.{balanceOf, settledOf}
 use Rattle.transcript.specs.Events.{Fold}
 use Rattle.transcript.specs.Transcript.{eventLine, lastLine, linesFold}
 
--- the line of an event, by the totals after it; the last line
+-- the line of an event, by the totals after it
 abbrev pub accountLine : ℕ → ℕ → ℕ → Totals → List ℕ
 accountLine n code value s = eventLine n code value (balanceOf s) (s .plan)
 
+-- the last line, by the totals
 abbrev pub accountLastLine : Totals → List ℕ
 accountLastLine s = lastLine (settledOf s) (s .standing)
 
+-- the lines of events by the account's step
 abbrev pub accountLines : Fold (Account × ℕ) (List ℕ)
 accountLines =
     linesFold (λ (a : Account) (e : Event). stepOf a e .account)

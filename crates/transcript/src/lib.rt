@@ -1,6 +1,6 @@
 // What `prepay` prints for a text: whole into a lent buffer, or in pieces through one of any size.
-// It uses the event text, the terms, the account, the moves, the marks, the readings and the printing. Its promises cite
-// specs/Transcript.antt, specs/Counts.antt and specs/Pieces.antt, which stand on specs/Events.antt and specs/Work.antt.
+// It uses the calendar, the terms, the ledger, the event text, the marks, the moves, the account, the readings and the printing. Its promises
+// cite specs/Transcript.antt, specs/Counts.antt and specs/Pieces.antt, which use specs/Events.antt and specs/Work.antt.
 use account::Account;
 use calendar::DAY_COUNT;
 use calendar::Date;
@@ -102,7 +102,7 @@ fn put_events(text: &[u8], p: Progress, out: &mut [u8]) -> Progress
         let read = text::read_event(text, at);
         match read {
             EventRead::Got { event, next } => {
-                // `account::step` on b where it stands: the record is not copied.
+                // What `account::step` does, on b itself, so that the record is not copied; a refusal's cells are written back as they were.
                 let t = b.terms;
                 let s = b.totals;
                 let number = (event.number % MAX_PAYMENTS) as usize;
