@@ -90,8 +90,8 @@ typedef struct {
  * Other numbers never make a call read or write elsewhere, wrap or run on. Every event gets 1 and leaves them as they are where a day's
  * state is above 2, a blank day has Wh or cost, `on` or a `reversed` is above 1, `spare` is not 0, the terms are outside their limits,
  * `count` is above 128, or credit, debit, plan or standing is above 2^60; any others are taken for an account. Readings are read off the
- * totals in any case (balance is 0 where credit or debit is above 2^60, settled where any of the four is). Figures of numbers with such a state, flag or `spare` are
- * 0, with code 3. */
+ * totals in any case (balance is 0 where credit or debit is above 2^60, settled where any of the four is). Where every event gets 1, a
+ * month's figures are 0, with code 1. */
 typedef struct {
     uint64_t credit, debit, plan, standing;
     uint32_t count, events, last, on;
