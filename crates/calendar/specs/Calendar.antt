@@ -70,14 +70,20 @@ monthsAfter d = 12 * (d .year - firstYear) + (d .month - 1)
 unfoldable pub daysAfter : Date → ℕ
 daysAfter d = total lengthAfter (monthsAfter d) + (d .day - 1)
 
--- Monday is 0, Saturday 5, Sunday 6.
+-- The weekdays: Monday is 0, Saturday 5, Sunday 6; 7 is none.
 abbrev pub saturday : ℕ
 saturday = 5
+
+abbrev pub sunday : ℕ
+sunday = saturday + 1
+
+abbrev pub noWeekday : ℕ
+noWeekday = sunday + 1
 
 -- The weekday n days after 2000-01-01, which was a Saturday.
 unfoldable pub weekdayAfter : ℕ → ℕ
 weekdayAfter zero = saturday
-weekdayAfter (suc n) = cond (eqb (weekdayAfter n) 6) 0 (weekdayAfter n + 1)
+weekdayAfter (suc n) = cond (eqb (weekdayAfter n) sunday) 0 (weekdayAfter n + 1)
 
 unfoldable pub weekdayOf : Date → ℕ
 weekdayOf d = weekdayAfter (daysAfter d)
@@ -96,12 +102,12 @@ inReach d = leb firstYear (d .year) && (leb (d .year) endYear && dateExists (d .
 
 -- ---- what the functions of this crate answer
 
--- outside those dates: the same record, no weekday (7)
+-- outside those dates: the same record, no weekday
 abbrev pub nextAnswer : Date → Date
 nextAnswer d = cond (inReach d) (nextOf d) d
 
 abbrev pub weekdayAnswer : Date → ℕ
-weekdayAnswer d = cond (inReach d) (weekdayOf d) 7
+weekdayAnswer d = cond (inReach d) (weekdayOf d) noWeekday
 
 -- "k from 0 to 399"
 abbrev pub finalDay : ℕ
@@ -125,9 +131,8 @@ isDay opened k = opens opened && leb k finalDay
 abbrev pub dateAnswer : Date → ℕ → Dated
 dateAnswer opened k = cond (isDay opened k) (dated.On (dateOn opened k)) dated.Outside
 
--- no weekday: 7
 abbrev pub weekdayOn : Date → ℕ → ℕ
-weekdayOn opened k = cond (isDay opened k) (weekdayOf (dateOn opened k)) 7
+weekdayOn opened k = cond (isDay opened k) (weekdayOf (dateOn opened k)) noWeekday
 
 -- no month: one past the last
 abbrev pub monthOn : Date → ℕ → ℕ

@@ -18,7 +18,7 @@ pub struct Date {
 // "k from 0 to 399", and the months that those days can touch.
 pub const FINAL_DAY: u32 = 399;
 
-pub const DAY_COUNT: u32 = 400;
+pub const DAY_COUNT: u32 = FINAL_DAY + 1;
 
 pub const MONTH_COUNT: u32 = 15;
 
@@ -29,8 +29,12 @@ pub const LAST_YEAR: u32 = 2099;
 
 const END_YEAR: u32 = LAST_YEAR + 2;
 
-// Monday is 0, Saturday 5, Sunday 6.
+// The weekdays: Monday is 0, Saturday 5, Sunday 6; 7 is none.
 pub const SATURDAY: u32 = 5;
+
+pub const SUNDAY: u32 = SATURDAY + 1;
+
+const NO_WEEKDAY: u32 = SUNDAY + 1;
 
 // "1 ≤ x − w ≤ 7": for so many days after its own a warning serves.
 pub const WARNING_DAYS: u32 = 7;
@@ -188,7 +192,7 @@ impl Date {
         ensures { λ r. ⌜ r ≡ weekdayAnswer self ⌝ }
     {
         if !is_reached(self) {
-            return 7;
+            return NO_WEEKDAY;
         }
         (days_after(self) + SATURDAY) % 7
     }
@@ -281,7 +285,7 @@ pub fn weekday_of(opened: Date, k: u32) -> u32
 {
     match date_of(opened, k) {
         Dated::On(d) => d.weekday(),
-        Dated::Outside => 7,
+        Dated::Outside => NO_WEEKDAY,
     }
 }
 

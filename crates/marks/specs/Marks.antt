@@ -5,7 +5,7 @@ use mathlib.Core.List.{List}
 use lib.ListN.{getD, set}
 use lib.Dec.{ltb, leb, eqb}
 use lib.Bits.{bitAnd, bitOr}
-use Rattle.calendar.specs.Calendar.{saturday, finalDay, warningDays}
+use Rattle.calendar.specs.Calendar.{saturday, sunday, finalDay, warningDays}
 use Rattle.marks.specs.declared.Found.{Found}
 use Rattle.marks.specs.declared.Found.the-variants.{At, Missing}
 
@@ -31,7 +31,7 @@ isMissing (At d) = false
 isMissing Missing = true
 
 abbrev pub dayBefore : ℕ → ℕ
-dayBefore w = cond (eqb w 0) 6 (w - 1)
+dayBefore w = cond (eqb w 0) sunday (w - 1)
 
 abbrev pub businessLeft : ℕ → ℕ → ℕ
 businessLeft w left = cond (leb saturday w) left (left - 1)

@@ -94,7 +94,7 @@ fn day_before(weekday: u32) -> u32
     ensures { λ r. ⌜ r ≡ dayBefore weekday ⌝ }
 {
     if weekday == 0 {
-        return 6;
+        return calendar::SUNDAY;
     }
     weekday - 1
 }
