@@ -64,5 +64,10 @@ pub record UsedTo (n : ℕ) (s : Usages) : Type 0 where
 
 -- ---- the figures
 
+-- What the average divides, and what it divides by, are at most this: the cost, or the Wh, of 400 metered and 400 estimated days, each below
+-- 2 ^ 32, and two sums of charges, each at most 2 ^ 40.
+abbrev pub maxAveraged : ℕ
+maxAveraged = 6000000000000
+
 unfoldable pub figuresOf : Paid → Usages → List ℕ → Summary
 figuresOf p u charges = figuresBy (p .kept) (p .reversed) (u .metered) (u .estimated) charges

@@ -18,7 +18,7 @@ ghost use Rattle.calendar.specs.Calendar.{finalDay, dayCount, monthCount};
 ghost use Rattle.ledger.specs.Rules.{maxPayments};
 ghost use Rattle.ledger.specs.Months.{noSummary, averageOf};
 ghost use Rattle.months.specs.Summary.{chargesOf, IsSummary};
-ghost use Rattle.months.specs.Work.{maxField, span, PaidTo, UsedTo, withAmount, withPayment, paidBy, withUsage, withDay, usedBy, figuresOf};
+ghost use Rattle.months.specs.Work.{maxField, span, PaidTo, UsedTo, withAmount, withPayment, paidBy, withUsage, withDay, usedBy, maxAveraged, figuresOf};
 
 // The payments kept and those reversed.
 struct Paid {
@@ -163,7 +163,7 @@ fn charges_in(charges: Charges, m: u32) -> KindSums
 }
 
 fn average(cost: u64, wh: u64) -> u64
-    requires { ⌜ (cost ≤ 6000000000000) × (wh ≤ 6000000000000) ⌝ }
+    requires { ⌜ (cost ≤ maxAveraged) × (wh ≤ maxAveraged) ⌝ }
     ensures { λ r. ⌜ r ≡ averageOf cost wh ⌝ }
 {
     if wh == 0 {
