@@ -48,22 +48,42 @@ unfoldable pub total : (ℕ → ℕ) → ℕ → ℕ
 total f zero = 0
 total f (suc n) = total f n + f n
 
+-- "years 2000 to 2099": the years in which an account can open, and the year in which the last account ends
+abbrev pub firstYear : ℕ
+firstYear = 2000
+
+abbrev pub lastYear : ℕ
+lastYear = 2099
+
+abbrev pub endYear : ℕ
+endYear = lastYear + 2
+
 -- The length of the month that comes i months after January 2000.
 unfoldable pub lengthAfter : ℕ → ℕ
-lengthAfter i = monthLength (2000 + i / 12) (i % 12 + 1)
+lengthAfter i = monthLength (firstYear + i / 12) (i % 12 + 1)
 
 -- How many months after January 2000 the date's month is.
 abbrev pub monthsAfter : Date → ℕ
-monthsAfter d = 12 * (d .year - 2000) + (d .month - 1)
+monthsAfter d = 12 * (d .year - firstYear) + (d .month - 1)
 
 -- How many days after 2000-01-01 a date of 2000 or later is: the whole months before it, and the days before it in its own month.
 unfoldable pub daysAfter : Date → ℕ
 daysAfter d = total lengthAfter (monthsAfter d) + (d .day - 1)
 
--- The weekday n days after 2000-01-01, which was a Saturday: Monday is 0, Saturday 5, Sunday 6.
+-- The weekdays: Monday is 0, Saturday 5, Sunday 6; 7 is none.
+abbrev pub saturday : ℕ
+saturday = 5
+
+abbrev pub sunday : ℕ
+sunday = saturday + 1
+
+abbrev pub noWeekday : ℕ
+noWeekday = sunday + 1
+
+-- The weekday n days after 2000-01-01, which was a Saturday.
 unfoldable pub weekdayAfter : ℕ → ℕ
-weekdayAfter zero = 5
-weekdayAfter (suc n) = cond (eqb (weekdayAfter n) 6) 0 (weekdayAfter n + 1)
+weekdayAfter zero = saturday
+weekdayAfter (suc n) = cond (eqb (weekdayAfter n) sunday) 0 (weekdayAfter n + 1)
 
 unfoldable pub weekdayOf : Date → ℕ
 weekdayOf d = weekdayAfter (daysAfter d)
@@ -74,20 +94,20 @@ monthFrom opened d = (12 * d .year + d .month) - (12 * opened .year + opened .mo
 
 -- A date that can open an account: "a Gregorian date, years 2000 to 2099".
 unfoldable pub opens : Date → Bool
-opens d = leb 2000 (d .year) && (leb (d .year) 2099 && dateExists (d .year) (d .month) (d .day))
+opens d = leb firstYear (d .year) && (leb (d .year) lastYear && dateExists (d .year) (d .month) (d .day))
 
--- The dates that the calendar's code works on: to the end of 2101, the year in which the last account ends.
+-- The dates that the calendar's code works on: to the end of the year in which the last account ends.
 unfoldable pub inReach : Date → Bool
-inReach d = leb 2000 (d .year) && (leb (d .year) 2101 && dateExists (d .year) (d .month) (d .day))
+inReach d = leb firstYear (d .year) && (leb (d .year) endYear && dateExists (d .year) (d .month) (d .day))
 
 -- ---- what the functions of this crate answer
 
--- outside those dates: the record as it is, and 7, which is no weekday
+-- outside those dates: the record as it is, and no weekday
 abbrev pub nextAnswer : Date → Date
 nextAnswer d = cond (inReach d) (nextOf d) d
 
 abbrev pub weekdayAnswer : Date → ℕ
-weekdayAnswer d = cond (inReach d) (weekdayOf d) 7
+weekdayAnswer d = cond (inReach d) (weekdayOf d) noWeekday
 
 -- "k from 0 to 399"
 abbrev pub finalDay : ℕ
@@ -100,6 +120,10 @@ dayCount = finalDay + 1
 abbrev pub monthCount : ℕ
 monthCount = 15
 
+-- "1 ≤ x − w ≤ 7": for so many days after its own a warning serves. It is named here, below the ledger and the marks, which both use it.
+abbrev pub warningDays : ℕ
+warningDays = 7
+
 -- Whether the date can open an account and k is one of its days.
 abbrev pub isDay : Date → ℕ → Bool
 isDay opened k = opens opened && leb k finalDay
@@ -107,9 +131,9 @@ isDay opened k = opens opened && leb k finalDay
 abbrev pub dateAnswer : Date → ℕ → Dated
 dateAnswer opened k = cond (isDay opened k) (dated.On (dateOn opened k)) dated.Outside
 
--- 7, which is no weekday, where there is no such day
+-- no weekday where there is no such day
 abbrev pub weekdayOn : Date → ℕ → ℕ
-weekdayOn opened k = cond (isDay opened k) (weekdayOf (dateOn opened k)) 7
+weekdayOn opened k = cond (isDay opened k) (weekdayOf (dateOn opened k)) noWeekday
 
 -- one past the last month where there is no such day
 abbrev pub monthOn : Date → ℕ → ℕ

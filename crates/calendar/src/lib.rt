@@ -2,8 +2,8 @@
 // It uses nothing else. Its promises cite specs/Calendar.antt.
 ghost use mathlib.Core.Path.{_≡_};
 ghost use mathlib.Core.Bool.{true};
-ghost use Prim.Native.Nat.{_*_, _≤_, _<_};
-ghost use Rattle.calendar.specs.Calendar.{leapYear, monthLength, dateExists, opens, inReach};
+ghost use Prim.Native.Nat.{_+_, _-_, _*_, _≤_, _<_};
+ghost use Rattle.calendar.specs.Calendar.{leapYear, monthLength, dateExists, firstYear, endYear, opens, inReach};
 ghost use Rattle.calendar.specs.Calendar.{total, lengthAfter, daysAfter, monthFrom};
 ghost use Rattle.calendar.specs.Calendar.{nextAnswer, weekdayAnswer, monthCount, dateAnswer, weekdayOn, monthOn, DayAnswer, MonthAnswer};
 ghost use Rattle.calendar.specs.Work.{daysBefore, yearLength, yearTaken, InYear, monthStart};
@@ -18,9 +18,26 @@ pub struct Date {
 // "k from 0 to 399", and the months that those days can touch.
 pub const FINAL_DAY: u32 = 399;
 
-pub const DAY_COUNT: u32 = 400;
+pub const DAY_COUNT: u32 = FINAL_DAY + 1;
 
 pub const MONTH_COUNT: u32 = 15;
+
+// "years 2000 to 2099": the years in which an account can open, and the year in which the last account ends.
+pub const FIRST_YEAR: u32 = 2000;
+
+pub const LAST_YEAR: u32 = 2099;
+
+const END_YEAR: u32 = LAST_YEAR + 2;
+
+// The weekdays: Monday is 0, Saturday 5, Sunday 6; 7 is none.
+pub const SATURDAY: u32 = 5;
+
+pub const SUNDAY: u32 = SATURDAY + 1;
+
+const NO_WEEKDAY: u32 = SUNDAY + 1;
+
+// "1 ≤ x − w ≤ 7": for so many days after its own a warning serves.
+pub const WARNING_DAYS: u32 = 7;
 
 // The date of a day, or that the account has no such day.
 pub enum Dated {
@@ -91,7 +108,7 @@ fn days_before(leap: bool, month: u32) -> u32
 
 // The days from 2000-01-01 to 1 January of the year n years later.
 fn years_before(n: u32) -> u32
-    requires { ⌜ n ≤ 102 ⌝ }
+    requires { ⌜ n ≤ endYear + 1 - firstYear ⌝ }
     ensures { λ r. ⌜ r ≡ total lengthAfter (12 * n) ⌝ }
 {
     if n > 100 {
@@ -102,27 +119,27 @@ fn years_before(n: u32) -> u32
 
 // The days from 2000-01-01 to the first of the month i months after January 2000.
 fn month_after(i: u32) -> u32
-    requires { ⌜ i < 1224 ⌝ }
+    requires { ⌜ i < 12 * (endYear + 1 - firstYear) ⌝ }
     ensures { λ r. ⌜ r ≡ total lengthAfter i ⌝ }
 {
     let n = i / 12;
-    years_before(n) + days_before(leap(2000 + n), i % 12 + 1)
+    years_before(n) + days_before(leap(FIRST_YEAR + n), i % 12 + 1)
 }
 
 fn days_after(d: Date) -> u32
     requires { ⌜ inReach d ≡ true ⌝ }
     ensures { λ r. ⌜ r ≡ daysAfter d ⌝ }
 {
-    month_after(12 * (d.year - 2000) + (d.month - 1)) + (d.day - 1)
+    month_after(12 * (d.year - FIRST_YEAR) + (d.month - 1)) + (d.day - 1)
 }
 
 fn in_reach(d: Date) -> bool
     ensures { λ r. ⌜ r ≡ inReach d ⌝ }
 {
-    if d.year < 2000 {
+    if d.year < FIRST_YEAR {
         return false;
     }
-    if d.year > 2101 {
+    if d.year > END_YEAR {
         return false;
     }
     exists(d.year, d.month, d.day)
@@ -132,10 +149,10 @@ fn in_reach(d: Date) -> bool
 pub fn can_open(d: Date) -> bool
     ensures { λ r. ⌜ r ≡ opens d ⌝ }
 {
-    if d.year < 2000 {
+    if d.year < FIRST_YEAR {
         return false;
     }
-    if d.year > 2099 {
+    if d.year > LAST_YEAR {
         return false;
     }
     exists(d.year, d.month, d.day)
@@ -175,9 +192,9 @@ impl Date {
         ensures { λ r. ⌜ r ≡ weekdayAnswer self ⌝ }
     {
         if !in_reach(self) {
-            return 7;
+            return NO_WEEKDAY;
         }
-        (days_after(self) + 5) % 7
+        (days_after(self) + SATURDAY) % 7
     }
 
     // The number of the date's month, counted from that of the opening date.
@@ -207,7 +224,7 @@ struct Place {
 
 // The place with one whole year taken out of its days, where they hold one.
 fn take_year(p: Place) -> Place
-    requires { ⌜ (p .year ≤ 2101) ⌝ }
+    requires { ⌜ p .year ≤ endYear ⌝ }
     ensures { λ r. ⌜ r ≡ yearTaken p ⌝ }
 {
     let n = year_length(p.year);
@@ -268,7 +285,7 @@ pub fn weekday_of(opened: Date, k: u32) -> u32
 {
     match date_of(opened, k) {
         Dated::On(d) => d.weekday(),
-        Dated::Outside => 7,
+        Dated::Outside => NO_WEEKDAY,
     }
 }
 
@@ -309,7 +326,7 @@ fn month_start(opened: Date, m: u32) -> u32
     ensures { λ r. ⌜ r ≡ monthStart opened m ⌝ }
 {
     let first = days_after(opened);
-    let at = month_after(12 * (opened.year - 2000) + (opened.month - 1) + m);
+    let at = month_after(12 * (opened.year - FIRST_YEAR) + (opened.month - 1) + m);
     if at < first {
         return 0;
     }

@@ -2,9 +2,13 @@
 // It uses the calendar, the terms, the ledger's event, the moves, the account, the readings and the month's figures. Its promises cite
 // specs/Image.antt.
 use account::Account;
+use account::Payments;
+use account::UsageDays;
 use calendar::Date;
 use ledger::Event;
 use ledger::Summary;
+use marks::DayBytes;
+use moves::Charges;
 use moves::Day;
 use moves::Payment;
 use moves::Totals;
@@ -48,18 +52,26 @@ pub struct TotalsImage {
     pub on: u32,
 }
 
+const DAYS: usize = calendar::DAY_COUNT as usize;
+
+const PAYMENTS: usize = ledger::MAX_PAYMENTS as usize;
+
+pub type DayImages = [DayImage; DAYS];
+
+pub type PaymentImages = [PaymentImage; PAYMENTS];
+
 // The account record, field by field.
 #[repr(C)]
 pub struct Image {
     pub totals: TotalsImage,
     pub terms: Terms,
-    pub days: [DayImage; 400],
-    pub marks: [u8; 400],
-    pub warned: [u8; 400],
-    pub payments: [PaymentImage; 128],
+    pub days: DayImages,
+    pub marks: DayBytes,
+    pub warned: DayBytes,
+    pub payments: PaymentImages,
     // 0; so that no byte of the image is in no field
     pub spare: u32,
-    pub charges: [u64; 75],
+    pub charges: Charges,
 }
 
 // The image after an event, and the answer to it.
@@ -131,14 +143,14 @@ fn is_day_image(d: DayImage) -> bool
     d.state <= 2
 }
 
-fn days_of(l: [DayImage; 400]) -> [Day; 400]
+fn days_of(l: DayImages) -> UsageDays
     ensures { λ r. ⌜ r ≡ map dayOf l ⌝ }
 {
     let mut days = [Day {
         usage: Usage::Blank,
-    }; 400];
+    }; DAYS];
     let mut i: usize = 0;
-    while i < 400 {
+    while i < DAYS {
         days[i] = Day {
             usage: usage_of(l[i]),
         };
@@ -147,16 +159,16 @@ fn days_of(l: [DayImage; 400]) -> [Day; 400]
     days
 }
 
-fn day_images(l: [Day; 400]) -> [DayImage; 400]
+fn day_images(l: UsageDays) -> DayImages
     ensures { λ r. ⌜ r ≡ map dayImage l ⌝ }
 {
     let mut images = [DayImage {
         state: 0,
         wh: 0,
         cost: 0,
-    }; 400];
+    }; DAYS];
     let mut i: usize = 0;
-    while i < 400 {
+    while i < DAYS {
         let d = l[i];
         let u = d.usage;
         images[i] = usage_image(u);
@@ -165,11 +177,11 @@ fn day_images(l: [Day; 400]) -> [DayImage; 400]
     images
 }
 
-fn are_day_images(l: [DayImage; 400]) -> bool
+fn are_day_images(l: DayImages) -> bool
     ensures { λ r. ⌜ r ≡ every isDayImage l ⌝ }
 {
     let mut i: usize = 0;
-    while i < 400 {
+    while i < DAYS {
         if !is_day_image(l[i]) {
             return false;
         }
@@ -208,7 +220,7 @@ fn flag(b: bool) -> u32
     if b { 1 } else { 0 }
 }
 
-fn payments_of(l: [PaymentImage; 128]) -> [Payment; 128]
+fn payments_of(l: PaymentImages) -> Payments
     ensures { λ r. ⌜ r ≡ map paymentOf l ⌝ }
 {
     let mut payments = [Payment {
@@ -216,16 +228,16 @@ fn payments_of(l: [PaymentImage; 128]) -> [Payment; 128]
         amount: 0,
         part: 0,
         reversed: false,
-    }; 128];
+    }; PAYMENTS];
     let mut i: usize = 0;
-    while i < 128 {
+    while i < PAYMENTS {
         payments[i] = payment_of(l[i]);
         i += 1;
     }
     payments
 }
 
-fn payment_images(l: [Payment; 128]) -> [PaymentImage; 128]
+fn payment_images(l: Payments) -> PaymentImages
     ensures { λ r. ⌜ r ≡ map paymentImage l ⌝ }
 {
     let mut images = [PaymentImage {
@@ -233,20 +245,20 @@ fn payment_images(l: [Payment; 128]) -> [PaymentImage; 128]
         amount: 0,
         part: 0,
         reversed: 0,
-    }; 128];
+    }; PAYMENTS];
     let mut i: usize = 0;
-    while i < 128 {
+    while i < PAYMENTS {
         images[i] = payment_image(l[i]);
         i += 1;
     }
     images
 }
 
-fn are_payment_images(l: [PaymentImage; 128]) -> bool
+fn are_payment_images(l: PaymentImages) -> bool
     ensures { λ r. ⌜ r ≡ every isPaymentImage l ⌝ }
 {
     let mut i: usize = 0;
-    while i < 128 {
+    while i < PAYMENTS {
         let p = l[i];
         if p.reversed > 1 {
             return false;

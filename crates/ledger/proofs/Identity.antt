@@ -11,7 +11,7 @@ use lib.IntN.{pos, _+ℤ_, _-ℤ_, +ℤ-idr}
 use borrow.Author.Tests.{ltb-true, leb-true, leb-false, eqb-true, not-true, not-false}
 use Rattle.tariff.specs.Tariff.{costOf}
 use Rattle.terms.specs.declared.Terms.{Terms}
-use Rattle.terms.specs.Terms.{validTerms}
+use Rattle.terms.specs.Terms.{maxShare, validTerms}
 use Rattle.ledger.specs.declared.Event.{Event}
 use Rattle.ledger.specs.Event.{isPay, isReverse, isCredit, isCharge, isEstimate, isRead, isPlan, isDisconnect, isConnect}
 use Rattle.ledger.specs.Entries.{usageCost, Entry, Entries, any, count, sum, sumOf, amountOf, find, orZero, paidAmount, paidPart, lastDay, paymentCount, hasNumber, payment, reversed, priceOn, UsageDay, readOn, estimateOn, whOn, usageDay, isBlank, isMetered, estimateCost}
@@ -24,7 +24,7 @@ use Rattle.ledger.proofs.Accepted.{Accepted, accepted-by}
 use Rattle.ledger.specs.Invariant.{All, UsedBefore, Invariant}
 use Rattle.ledger.proofs.Weights.{all-map, sum-same, take-out, one-weighs, given-once}
 
-pub invariant-opening : (t : Terms) → t .share ≤ 100 → Invariant t opening
+pub invariant-opening : (t : Terms) → t .share ≤ maxShare → Invariant t opening
 unfolding keptTotal creditTotal chargeTotal readCost standingCost sum reversed any payment find count
 invariant-opening t h = record {
   identity = refl;
@@ -39,7 +39,7 @@ invariant-opening t h = record {
 pub invariant-valid : (t : Terms) → validTerms t ≡ true → Invariant t opening
 unfolding validTerms
 invariant-valid t v = invariant-opening t (decide (leb (t .share) 50)
-    (λ y. omega (arith, leb-true (t .share) 50 y))
+    (λ y. leb-true (t .share) 50 y)
     (λ f. absurd (true≢false (sym (simp (f, and-false) at v)))))
 
 pub settled-is : (t : Terms) (l : Ledger) → Invariant t l → l .balance -ℤ pos (l .plan) +ℤ pos (standingCost t (l .list)) ≡ settled t (l .list)

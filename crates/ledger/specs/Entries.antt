@@ -4,7 +4,7 @@ use mathlib.Core.Bool.{Bool, true, false, cond, not, _&&_, _||_}
 use mathlib.Core.List.{List, [], _∷_}
 use mathlib.Core.Option.{Option, none, some}
 use lib.Dec.{ltb, leb, eqb}
-use Rattle.calendar.specs.Calendar.{dateOn, weekdayOf}
+use Rattle.calendar.specs.Calendar.{dateOn, saturday, weekdayOf, warningDays}
 use Rattle.calendar.specs.Days.{anyDay, countDays}
 use Rattle.tariff.specs.Tariff.{costOf}
 use Rattle.terms.specs.declared.Terms.{Terms}
@@ -91,7 +91,7 @@ isReversed l x before = isPay (x .event) && reversed l (paymentCount before)
 
 -- "some accepted warning was issued on a day w with 1 ≤ x − w ≤ 7"
 unfoldable pub warned : Entries → ℕ → Bool
-warned l x = any (λ (e : Event). isWarn e && (leb (e .day + 1) x && leb x (e .day + 7))) l
+warned l x = any (λ (e : Event). isWarn e && (leb (e .day + 1) x && leb x (e .day + warningDays))) l
 
 -- The price in force on usage day u: the opening price on every day.
 unfoldable pub priceOn : Terms → Entries → ℕ → ℕ
@@ -152,11 +152,11 @@ weekday t d = weekdayOf (dateOn (t .opened) d)
 
 -- "A barred day is a Saturday, a Sunday or a covered day."
 unfoldable pub barred : Terms → Entries → ℕ → Bool
-barred t l d = leb 5 (weekday t d) || (covered l 1 d || (covered l 2 d || covered l 3 d))
+barred t l d = leb saturday (weekday t d) || (covered l 1 d || (covered l 2 d || covered l 3 d))
 
 -- "Business days are Monday to Friday."
 unfoldable pub business : Terms → Entries → ℕ → Bool
-business t l d = ltb (weekday t d) 5
+business t l d = ltb (weekday t d) saturday
 
 -- how many business days are among days w+1 to x
 abbrev pub businessDays : Terms → Entries → ℕ → ℕ → ℕ

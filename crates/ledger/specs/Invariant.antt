@@ -4,6 +4,7 @@ use mathlib.Core.Path.{_≡_}
 use mathlib.Core.Bool.{true, _||_}
 use mathlib.Core.List.{[], _∷_}
 use lib.IntN.{pos, _-ℤ_}
+use Rattle.terms.specs.Terms.{maxShare}
 use Rattle.terms.specs.declared.Terms.{Terms}
 use Rattle.ledger.specs.Event.{isEstimate, isRead}
 use Rattle.ledger.specs.Entries.{Entry, Entries, count, lastDay, paymentCount, paidAmount, paidPart, reversed, estimateOn}
@@ -23,8 +24,8 @@ pub record Invariant (t : Terms) (l : Ledger) : Type 0 where
   -- B, by the sums over L and the unpaid plan
   pub identity : l .balance
       ≡ pos (keptTotal (l .list) + creditTotal (l .list) + l .plan) -ℤ pos (chargeTotal (l .list) + readCost t (l .list) + standingCost t (l .list))
-  -- the share's limit is 50; at most 100 is enough for `parts`
-  pub share : t .share ≤ 100
+  -- of the terms
+  pub share : t .share ≤ maxShare
   -- only a payment that was made is reversed
   pub numbers : (n : ℕ) → reversed (l .list) n ≡ true → n < paymentCount (l .list)
   -- what of a payment went to the plan is at most its amount

@@ -54,6 +54,9 @@ pub struct Used {
     pub cost: u64,
 }
 
+// A sum for each charge kind, 1 to 5, in cents.
+pub type KindSums = [u64; CHARGE_KIND_COUNT as usize];
+
 // A month's figures (specs/Months.antt). The code is 3 for a month that holds none of the account's days, and 1 where there is no account;
 // every figure is 0 then.
 #[repr(C)]
@@ -63,8 +66,7 @@ pub struct Summary {
     pub reversed: Counted,
     pub metered: Used,
     pub estimated: Used,
-    // charge kinds 1 to 5
-    pub charges: [u64; 5],
+    pub charges: KindSums,
     // hundredths of a cent per kWh
     pub average: u64,
     pub missing: bool,

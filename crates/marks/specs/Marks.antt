@@ -5,7 +5,7 @@ use mathlib.Core.List.{List}
 use lib.ListN.{getD, set}
 use lib.Dec.{ltb, leb, eqb}
 use lib.Bits.{bitAnd, bitOr}
-use Rattle.calendar.specs.Calendar.{finalDay}
+use Rattle.calendar.specs.Calendar.{saturday, sunday, finalDay, warningDays}
 use Rattle.marks.specs.declared.Found.{Found}
 use Rattle.marks.specs.declared.Found.the-variants.{At, Missing}
 
@@ -32,18 +32,18 @@ isMissing Missing = true
 
 -- the weekday before w
 abbrev pub dayBefore : ℕ → ℕ
-dayBefore w = cond (eqb w 0) 6 (w - 1)
+dayBefore w = cond (eqb w 0) sunday (w - 1)
 
 -- how many of `left` business days are left once a day of weekday w is counted
 abbrev pub businessLeft : ℕ → ℕ → ℕ
-businessLeft w left = cond (leb 5 w) left (left - 1)
+businessLeft w left = cond (leb saturday w) left (left - 1)
 
 -- whether one of days 0 to d has the weather bit, with at most `left` business days after it up to day d, whose weekday is w
 unfoldable pub nearOf : List ℕ → ℕ → ℕ → ℕ → Bool
 nearOf marks w zero left = not (eqb (bitAnd (getD marks 0 0) 1) 0)
 nearOf marks w (suc d) left =
     not (eqb (bitAnd (getD marks (suc d) 0) 1) 0)
-    || (not (ltb w 5 && eqb left 0) && nearOf marks (dayBefore w) d (businessLeft w left))
+    || (not (ltb w saturday && eqb left 0) && nearOf marks (dayBefore w) d (businessLeft w left))
 
 -- ---- what the functions of this crate answer, for days 0 to 399
 
@@ -55,9 +55,9 @@ marked marks kind from to = cond (leb to finalDay) (markRange marks (markBit kin
 unfoldable pub barringOn : List ℕ → ℕ → Bool
 barringOn marks d = cond (leb d finalDay) (not (eqb (bitAnd (getD marks d 0) 7) 0)) false
 
--- the newest warning of the seven days before day x
+-- the newest warning of the seven days before day x: "1 ≤ x − w ≤ 7"
 unfoldable pub latestWarning : List ℕ → ℕ → Found
-latestWarning warned x = cond (leb x finalDay) (latestOf warned x 7) Missing
+latestWarning warned x = cond (leb x finalDay) (latestOf warned x warningDays) Missing
 
 -- whether some weather day has at most one business day after it up to day x, whose weekday is w
 unfoldable pub weatherNear : List ℕ → ℕ → ℕ → Bool

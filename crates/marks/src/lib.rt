@@ -71,7 +71,7 @@ pub fn latest(warned: &DayBytes, day: u32) -> Found
         return Found::Missing;
     }
     let mut d = day;
-    let mut n: u32 = 7;
+    let mut n = calendar::WARNING_DAYS;
     let found = loop {
         if n == 0 {
             break Found::Missing;
@@ -94,7 +94,7 @@ fn day_before(weekday: u32) -> u32
     ensures { λ r. ⌜ r ≡ dayBefore weekday ⌝ }
 {
     if weekday == 0 {
-        return 6;
+        return calendar::SUNDAY;
     }
     weekday - 1
 }
@@ -103,7 +103,7 @@ fn day_before(weekday: u32) -> u32
 fn business_left(weekday: u32, left: u32) -> u32
     ensures { λ r. ⌜ r ≡ businessLeft weekday left ⌝ }
 {
-    if weekday >= 5 {
+    if weekday >= calendar::SATURDAY {
         return left;
     }
     if left == 0 {
@@ -130,7 +130,7 @@ pub fn weather_near(marks: &DayBytes, weekday: u32, day: u32) -> bool
         if d == 0 {
             return false;
         }
-        if w < 5 {
+        if w < calendar::SATURDAY {
             if left == 0 {
                 return false;
             }

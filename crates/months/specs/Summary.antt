@@ -13,6 +13,7 @@ use Rattle.ledger.specs.declared.Event.{Event}
 use Rattle.ledger.specs.declared.Counted.{Counted}
 use Rattle.ledger.specs.declared.Used.{Used}
 use Rattle.ledger.specs.declared.Summary.{Summary}
+use Rattle.ledger.specs.Event.{chargeKindCount}
 use Rattle.ledger.specs.Entries.{UsageDay, blank, estimated, metered, estimateCost}
 use Rattle.ledger.specs.Months.{meteredWh, meteredCost, estimatedWh, averageOf, noSummary, ledgerSummary}
 use Rattle.ledger.specs.Rules.{Ledger}
@@ -75,7 +76,13 @@ estimatedBy q l n = record { wh = usageBy q estimatedWh l n; cost = usageBy q es
 
 -- ---- charges: month m's of kinds 1 to 5
 abbrev pub chargesOf : List ℕ → ℕ → List ℕ
-chargesOf l m = getD l (5 * m) 0 ∷ getD l (5 * m + 1) 0 ∷ getD l (5 * m + 2) 0 ∷ getD l (5 * m + 3) 0 ∷ getD l (5 * m + 4) 0 ∷ []
+chargesOf l m =
+    getD l (chargeKindCount * m) 0
+    ∷ getD l (chargeKindCount * m + 1) 0
+    ∷ getD l (chargeKindCount * m + 2) 0
+    ∷ getD l (chargeKindCount * m + 3) 0
+    ∷ getD l (chargeKindCount * m + 4) 0
+    ∷ []
 
 -- No list of charges takes a month's sum past 2 ^ 40: a record that has one, of a kind that is in the average, is no account of this software's.
 abbrev pub maxChargeSum : ℕ

@@ -15,6 +15,10 @@ use Rattle.months.specs.Summary.{paymentKept, paymentReversed, ofPayment
 use Rattle.months.specs.declared.Paid.{Paid}
 use Rattle.months.specs.declared.Usages.{Usages}
 
+-- the largest number that a field of a payment or a usage day can have, of any record: each is a u32
+abbrev pub maxField : ℕ
+maxField = 4294967295
+
 -- days `from` to the day before `to`
 abbrev pub span : ℕ → ℕ → ℕ → Bool
 span from to d = leb from d && ltb d to
@@ -36,9 +40,9 @@ paidBy q l n = record { kept = countedBy q paymentKept l n; reversed = countedBy
 -- the counts and sums of n payments are at most these
 pub record PaidTo (n : ℕ) (s : Paid) : Type 0 where
   pub kept-count : s .kept .count ≤ n
-  pub kept-sum : s .kept .sum ≤ n * 4294967295
+  pub kept-sum : s .kept .sum ≤ n * maxField
   pub reversed-count : s .reversed .count ≤ n
-  pub reversed-sum : s .reversed .sum ≤ n * 4294967295
+  pub reversed-sum : s .reversed .sum ≤ n * maxField
 
 -- ---- usage days
 
@@ -53,12 +57,17 @@ usedBy q l n = record { metered = meteredBy q l n; estimated = estimatedBy q l n
 
 -- the Wh and costs of n usage days are at most these
 pub record UsedTo (n : ℕ) (s : Usages) : Type 0 where
-  pub metered-wh : s .metered .wh ≤ n * 4294967295
-  pub metered-cost : s .metered .cost ≤ n * 4294967295
-  pub estimated-wh : s .estimated .wh ≤ n * 4294967295
-  pub estimated-cost : s .estimated .cost ≤ n * 4294967295
+  pub metered-wh : s .metered .wh ≤ n * maxField
+  pub metered-cost : s .metered .cost ≤ n * maxField
+  pub estimated-wh : s .estimated .wh ≤ n * maxField
+  pub estimated-cost : s .estimated .cost ≤ n * maxField
 
 -- ---- the figures
+
+-- What the average divides, and what it divides by, are at most this: the cost, or the Wh, of 400 metered and 400 estimated days, each below
+-- 2 ^ 32, and two sums of charges, each at most 2 ^ 40.
+abbrev pub maxAveraged : ℕ
+maxAveraged = 6000000000000
 
 unfoldable pub figuresOf : Paid → Usages → List ℕ → Summary
 figuresOf p u charges = figuresBy (p .kept) (p .reversed) (u .metered) (u .estimated) charges

@@ -1,19 +1,24 @@
 // A month's figures off the account record.
 // It uses the calendar, the ledger, the moves and the account. The promise says the figures twice: off the record, and in the ledger's terms.
 use account::Account;
+use account::Payments;
+use account::UsageDays;
+use ledger::CHARGE_KIND_COUNT;
 use ledger::Counted;
+use ledger::KindSums;
 use ledger::Summary;
 use ledger::Used;
+use moves::Charges;
 use moves::Day;
 use moves::Payment;
 use moves::Usage;
 ghost use mathlib.Core.Path.{_≡_};
-ghost use Prim.Native.Nat.{ℕ, _+_, _≤_, _<_};
+ghost use Prim.Native.Nat.{ℕ, _+_, _-_, _*_, _≤_, _<_};
 ghost use Rattle.calendar.specs.Calendar.{finalDay, dayCount, monthCount};
 ghost use Rattle.ledger.specs.Rules.{maxPayments};
 ghost use Rattle.ledger.specs.Months.{noSummary, averageOf};
 ghost use Rattle.months.specs.Summary.{chargesOf, IsSummary};
-ghost use Rattle.months.specs.Work.{span, PaidTo, UsedTo, withAmount, withPayment, paidBy, withUsage, withDay, usedBy, figuresOf};
+ghost use Rattle.months.specs.Work.{maxField, span, PaidTo, UsedTo, withAmount, withPayment, paidBy, withUsage, withDay, usedBy, maxAveraged, figuresOf};
 
 // The payments kept and those reversed.
 struct Paid {
@@ -33,9 +38,9 @@ const MAX_CHARGE_SUM: u64 = 1099511627776;
 // ---- payments
 
 fn with_amount(c: Counted, amount: u32) -> Counted
-    requires { ⌜ (c .count ≤ 127) × (c .sum ≤ 545460846465) ⌝ }
+    requires { ⌜ (c .count < maxPayments) × (c .sum ≤ (maxPayments - 1) * maxField) ⌝ }
     ensures { λ r. ⌜ r ≡ withAmount c amount ⌝ }
-    ensures { λ r. ⌜ r .sum ≤ c .sum + 4294967295 ⌝ }
+    ensures { λ r. ⌜ r .sum ≤ c .sum + maxField ⌝ }
 {
     Counted {
         count: c.count + 1,
@@ -45,7 +50,7 @@ fn with_amount(c: Counted, amount: u32) -> Counted
 
 // With one payment more, if its day is one of days `from` to the day before `to`.
 fn with_payment(s: Paid, p: Payment, from: u32, to: u32) -> Paid
-    requires { ⌜ PaidTo 127 s ⌝ }
+    requires { ⌜ PaidTo (maxPayments - 1) s ⌝ }
     ensures { λ r. ⌜ r ≡ withPayment (span from to) s p ⌝ }
     ensures { λ r. ⌜ ((n : ℕ) → PaidTo n s → PaidTo (n + 1) r) ⌝ }
 {
@@ -69,12 +74,7 @@ fn with_payment(s: Paid, p: Payment, from: u32, to: u32) -> Paid
     }
 }
 
-fn paid_in(
-    payments: [Payment; ledger::MAX_PAYMENTS as usize],
-    count: u32,
-    from: u32,
-    to: u32,
-) -> Paid
+fn paid_in(payments: Payments, count: u32, from: u32, to: u32) -> Paid
     requires { ⌜ count ≤ maxPayments ⌝ }
     ensures { λ r. ⌜ r ≡ paidBy (span from to) payments count ⌝ }
 {
@@ -95,9 +95,9 @@ fn paid_in(
 // ---- usage days
 
 fn with_usage(u: Used, wh: u32, cost: u32) -> Used
-    requires { ⌜ (u .wh ≤ 1713691950705) × (u .cost ≤ 1713691950705) ⌝ }
+    requires { ⌜ (u .wh ≤ finalDay * maxField) × (u .cost ≤ finalDay * maxField) ⌝ }
     ensures { λ r. ⌜ r ≡ withUsage u wh cost ⌝ }
-    ensures { λ r. ⌜ (r .wh ≤ u .wh + 4294967295) × (r .cost ≤ u .cost + 4294967295) ⌝ }
+    ensures { λ r. ⌜ (r .wh ≤ u .wh + maxField) × (r .cost ≤ u .cost + maxField) ⌝ }
 {
     Used {
         wh: u.wh + wh as u64,
@@ -127,7 +127,7 @@ fn with_day(s: Usages, d: Day) -> Usages
     }
 }
 
-fn used_in(days: [Day; calendar::DAY_COUNT as usize], from: u32, to: u32) -> Usages
+fn used_in(days: UsageDays, from: u32, to: u32) -> Usages
     requires { ⌜ (from ≤ to) × (to ≤ dayCount) ⌝ }
     ensures { λ r. ⌜ r ≡ usedBy (span from to) days dayCount ⌝ }
     ensures { λ r. ⌜ UsedTo dayCount r ⌝ }
@@ -148,11 +148,11 @@ fn used_in(days: [Day; calendar::DAY_COUNT as usize], from: u32, to: u32) -> Usa
 
 // ---- charges, and the month's figures
 
-fn charges_in(charges: [u64; 75], m: u32) -> [u64; 5]
+fn charges_in(charges: Charges, m: u32) -> KindSums
     requires { ⌜ m < monthCount ⌝ }
     ensures { λ r. ⌜ r ≡ chargesOf charges m ⌝ }
 {
-    let i = (5 * m) as usize;
+    let i = (CHARGE_KIND_COUNT * m) as usize;
     [
         charges[i],
         charges[i + 1],
@@ -163,7 +163,7 @@ fn charges_in(charges: [u64; 75], m: u32) -> [u64; 5]
 }
 
 fn average(cost: u64, wh: u64) -> u64
-    requires { ⌜ (cost ≤ 6000000000000) × (wh ≤ 6000000000000) ⌝ }
+    requires { ⌜ (cost ≤ maxAveraged) × (wh ≤ maxAveraged) ⌝ }
     ensures { λ r. ⌜ r ≡ averageOf cost wh ⌝ }
 {
     if wh == 0 {
@@ -182,13 +182,13 @@ fn nothing(code: u8) -> Summary
         reversed: Counted { count: 0, sum: 0 },
         metered: Used { wh: 0, cost: 0 },
         estimated: Used { wh: 0, cost: 0 },
-        charges: [0; 5],
+        charges: [0; CHARGE_KIND_COUNT as usize],
         average: 0,
         missing: false,
     }
 }
 
-fn figures(p: Paid, u: Usages, charges: [u64; 5]) -> Summary
+fn figures(p: Paid, u: Usages, charges: KindSums) -> Summary
     requires { ⌜ UsedTo dayCount u ⌝ }
     ensures { λ r. ⌜ r ≡ figuresOf p u charges ⌝ }
 {

@@ -5,7 +5,7 @@ use mathlib.Core.Bool.{Bool, true, false, cond, not, _&&_, _||_}
 use mathlib.Core.List.{List}
 use lib.ListN.{getD}
 use lib.Dec.{ltb, leb, eqb}
-use Rattle.calendar.specs.Calendar.{finalDay, dayCount, monthCount, weekdayOn, monthOn}
+use Rattle.calendar.specs.Calendar.{saturday, finalDay, dayCount, monthCount, weekdayOn, monthOn}
 use Rattle.tariff.specs.Tariff.{costOf}
 use Rattle.marks.specs.Marks.{barringOn, latestWarning, weatherNear, isMissing}
 use Rattle.terms.specs.Terms.{termsCode}
@@ -228,7 +228,7 @@ unfoldable pub servedOf : Terms → Move → Event → Bool → Move
 servedOf t m e b = accepting m (withService (tallied (m .totals) (e .day)) b) 0
 
 abbrev pub barredOn : Terms → List ℕ → Event → Bool
-barredOn t marks e = leb 5 (weekdayOn (t .opened) (e .day)) || barringOn marks (e .day)
+barredOn t marks e = leb saturday (weekdayOn (t .opened) (e .day)) || barringOn marks (e .day)
 
 unfoldable pub disconnectOf : Terms → Move → List ℕ → List ℕ → Event → Move
 disconnectOf t m marks warned e =

@@ -8,13 +8,14 @@ use ledger::MAX_PAYMENTS;
 use terms::Terms;
 ghost use mathlib.Core.Path.{_≡_};
 ghost use Prim.Native.Nat.{_-_, _*_, _/_, _<_, _≤_, min};
+ghost use Rattle.terms.specs.Terms.{maxShare};
 ghost use Rattle.terms.specs.declared.Terms.{Terms};
 ghost use Rattle.ledger.specs.Rules.{maxEvents};
 ghost use Rattle.moves.specs.Moves.{maxTotal, tallied, credited, accepting, earlyCode, payOf, reverseOf};
 
 // The smaller of the unpaid plan and the share of the amount, rounded down.
 fn plan_part(plan: u64, amount: u32, share: u32) -> u32
-    requires { ⌜ share ≤ 50 ⌝ }
+    requires { ⌜ share ≤ maxShare ⌝ }
     ensures { λ r. ⌜ r ≡ min plan (amount * share / 100) ⌝ }
 {
     let shared = amount as u64 * share as u64 / 100;

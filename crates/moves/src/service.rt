@@ -3,6 +3,7 @@ use super::Move;
 use super::Totals;
 use super::accept;
 use super::refuse;
+use calendar::SATURDAY;
 use ledger::Event;
 use ledger::REQUIRED_DEBT;
 use marks::DayBytes;
@@ -90,7 +91,7 @@ pub(crate) fn disconnect(t: Terms, m: Move, marks: &DayBytes, warned: &DayBytes,
         return refuse(m, 13);
     };
     let opened = t.opened;
-    if calendar::weekday_of(opened, e.day) >= 5 {
+    if calendar::weekday_of(opened, e.day) >= SATURDAY {
         return refuse(m, 14);
     }
     if marks::barring(marks, e.day) {

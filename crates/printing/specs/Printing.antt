@@ -24,6 +24,10 @@ decimal n = digits (suc n) n
 abbrev pub DigitsSuffice : Type 0
 DigitsSuffice = (n : ℕ) → decimal n ≡ digitsBy decimal n
 
+-- the bytes that a number below 2 ^ 64 has at most
+abbrev pub numberRoom : ℕ
+numberRoom = 20
+
 -- "a negative sum has a leading minus"
 unfoldable pub signed : ℤ → List ℕ
 signed (pos n) = decimal n

@@ -1,4 +1,4 @@
--- A signed number of 64 bits, from two sums below half its range.
+-- A signed number of 64 bits, from two sums, each of at most two totals: a quarter of its range.
 -- Assumes nothing.
 use mathlib.Core.Path.{_≡_}
 use Prim.Native.Nat.{ℕ, _≤_}
@@ -9,11 +9,11 @@ use mir.Val.{SFits, toZ, ofZ}
 use mir.ValLaws.{toZ-ofZ}
 use Rattle.ledger.proofs.Money.{diff, by-sign, diff-high, diff-below}
 
--- an unsigned number below half the range is itself
-pub unsigned : (n : ℕ) → n ≤ 4611686018427387904 → toZ w64 n ≡ pos n
+-- an unsigned number in that range is itself
+pub unsigned : (n : ℕ) → n ≤ 2305843009213693952 → toZ w64 n ≡ pos n
 unsigned n h = toZ-ofZ w64 (pos n) (record { sfits = omega arith })
 
-pub diff-fits : (c d : ℕ) → c ≤ 4611686018427387904 → d ≤ 4611686018427387904 → SFits w64 (diff c d)
+pub diff-fits : (c d : ℕ) → c ≤ 2305843009213693952 → d ≤ 2305843009213693952 → SFits w64 (diff c d)
 diff-fits c d h k = record {
   sfits = by-sign c d
       (λ g. rw (diff-high c d g) (omega arith))

@@ -3,12 +3,14 @@
 use moves::MAX_TOTAL;
 use moves::Totals;
 ghost use mathlib.Core.Path.{_≡_};
-ghost use Prim.Native.Nat.{_≤_};
+ghost use Prim.Native.Nat.{_*_, _≤_};
 ghost use lib.IntN.{pos, _-ℤ_};
+ghost use Rattle.moves.specs.Moves.{maxTotal};
 ghost use Rattle.readings.specs.Readings.{IsBalance, IsPlan, IsService, IsSettled, IsEstimates};
 
+// The difference of two sums, each of one or two totals.
 fn signed(up: u64, down: u64) -> i64
-    requires { ⌜ (up ≤ 4611686018427387904) × (down ≤ 4611686018427387904) ⌝ }
+    requires { ⌜ (up ≤ 2 * maxTotal) × (down ≤ 2 * maxTotal) ⌝ }
     ensures { λ r. ⌜ r ≡ pos up -ℤ pos down ⌝ }
 {
     up as i64 - down as i64

@@ -20,6 +20,7 @@ use Rattle.ledger.specs.Sums.{standingCost}
 use Rattle.ledger.specs.Months.{chargesIn}
 use Rattle.account.specs.Record.{blankDay, noPayment, fresh}
 use Rattle.account.specs.Step.{stepOf}
+use Rattle.moves.specs.Moves.{chargePlaces}
 use Rattle.moves.specs.declared.Usage.{Usage}
 use Rattle.moves.specs.declared.Usage.the-variants.{Blank, Estimated, Metered}
 use Rattle.moves.specs.declared.Payment.{Payment}
@@ -61,24 +62,29 @@ pub record TotalsAgree (t : Terms) (s : Totals) (l : Ledger) : Type 0 where
   pub standing : s .standing ≡ standingCost t (l .list)
   pub count : s .count ≡ paymentCount (l .list)
 
+-- What one event adds to the credits or to R is at most this: a plan defers `connect` less B, which is at most the largest `connect`, 7,500, and
+-- the debits of 4,096 events of at most 10,000,000 each: 40,960,007,500. Every other event adds 10,000,000 at most.
+abbrev pub maxRise : ℕ
+maxRise = 50000000000
+
 -- what the totals are at most, by the count of events
 pub record Bounds (s : Totals) : Type 0 where
   pub full : s .events ≤ maxEvents
   pub count : s .count ≤ maxPayments
-  pub credit : s .credit ≤ s .events * 50000000000
-  pub debit : s .debit ≤ s .events * 10000000
-  pub plan : s .plan ≤ s .events * 50000000000
-  pub standing : s .standing ≤ s .events * 10000000
+  pub credit : s .credit ≤ s .events * maxRise
+  pub debit : s .debit ≤ s .events * maxAmount
+  pub plan : s .plan ≤ s .events * maxRise
+  pub standing : s .standing ≤ s .events * maxAmount
 
 -- what is kept by payment, usage day, day, and month with charge kind
 pub record CellsAgree (t : Terms) (a : Account) (l : Entries) : Type 0 where
   pub payments : (n : ℕ) → n < paymentCount l → getD (a .payments) n noPayment ≡ recordedPayment l n
   pub amounts : (n : ℕ) → paidAmount l n ≤ maxAmount
   pub days : (u : ℕ) → u < dayCount → getD (a .days) u blankDay .usage ≡ recordedUsage (usageDay t l u)
-  pub held : (u : ℕ) → estimateCost (usageDay t l u) ≤ 10000000
+  pub held : (u : ℕ) → estimateCost (usageDay t l u) ≤ maxAmount
   pub marks : (d : ℕ) → d < dayCount → getD (a .marks) d 0 ≡ recordedMarks l d
   pub warned : (d : ℕ) → d < dayCount → getD (a .warned) d 0 ≡ cond (warnedOn l d) 1 0
-  pub charges : (m k : ℕ) → m < monthCount → k < chargeKindCount → getD (a .charges) (5 * m + k) 0 ≡ chargesIn t l m (suc k)
+  pub charges : (m k : ℕ) → m < monthCount → k < chargeKindCount → getD (a .charges) (chargeKindCount * m + k) 0 ≡ chargesIn t l m (suc k)
   pub charged : (m k : ℕ) → chargesIn t l m k ≤ length l * maxAmount
 
 -- the lengths of the arrays
@@ -87,7 +93,7 @@ pub record Sizes (a : Account) : Type 0 where
   pub days : length (a .days) ≡ dayCount
   pub marks : length (a .marks) ≡ dayCount
   pub warned : length (a .warned) ≡ dayCount
-  pub charges : length (a .charges) ≡ monthCount * chargeKindCount
+  pub charges : length (a .charges) ≡ chargePlaces
 
 -- the same terms, within their limits, and each field of the record what the ledger reads off the terms and L
 pub record Agree (t : Terms) (a : Account) (l : Ledger) : Type 0 where

@@ -71,11 +71,15 @@ unfoldable pub valueFrom : ℕ → List ℕ → ℕ
 valueFrom n [] = n
 valueFrom n (b ∷ s) = valueFrom (n * 10 + (b - 48)) s
 
+-- "at most 4,294,967,295"
+abbrev pub maxNumber : ℕ
+maxNumber = 4294967295
+
 -- "digits without sign or leading zero, zero being `0`, at most 4,294,967,295"
 unfoldable pub isNumber : List ℕ → Bool
 isNumber v =
     leb 1 (length v)
-    && (allDigits v && ((eqb (length v) 1 || not (eqb (getD v 0 0) 48)) && leb (valueFrom 0 v) 4294967295))
+    && (allDigits v && ((eqb (length v) 1 || not (eqb (getD v 0 0) 48)) && leb (valueFrom 0 v) maxNumber))
 
 unfoldable pub readNumber : List ℕ → List ℕ → Read ℕ
 readNumber key s = then (readValue key s) (λ (v r : List ℕ). cond (isNumber v) (got (valueFrom 0 v) r) broken)

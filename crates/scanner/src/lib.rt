@@ -91,6 +91,9 @@ pub fn read_value(text: &[u8], at: usize, key: &[u8]) -> ValueRead
 
 // ---- numbers
 
+// "at most 4,294,967,295"
+const MAX_NUMBER: u64 = 4294967295;
+
 // The digit that a byte is, 10 for none.
 fn digit(byte: u8) -> u64
     ensures { λ r. ⌜ r ≡ digitOf byte ⌝ }
@@ -132,7 +135,7 @@ fn number_from(text: &[u8], from: usize) -> NumberRead
             }
         }
         n = n * 10 + d;
-        if n > 4294967295 {
+        if n > MAX_NUMBER {
             return NumberRead::Broken;
         }
         i += 1;

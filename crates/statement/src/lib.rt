@@ -11,10 +11,10 @@ use text::EventRead;
 use text::TermsRead;
 ghost use mathlib.Core.Path.{_≡_};
 ghost use mathlib.Core.Bool.{cond};
-ghost use Prim.Native.Nat.{ℕ, _+_, _≤_};
+ghost use Prim.Native.Nat.{ℕ, _+_, _*_, _≤_};
 ghost use lib.ListN.{length, drop};
 ghost use Rattle.scanner.specs.Scanner.{got};
-ghost use Rattle.printing.specs.Printing.{Wrote};
+ghost use Rattle.printing.specs.Printing.{numberRoom, Wrote};
 ghost use Rattle.refinement.specs.Lists.{accountAfter};
 ghost use Rattle.months.specs.Summary.{summaryOf};
 ghost use Rattle.transcript.specs.Transcript.{termsLine, byTerms};
@@ -28,9 +28,9 @@ pub const STATEMENT_ROOM: usize = 8192;
 
 // Two words, each with its number.
 fn put_two(out: &mut [u8], at: usize, one: &[u8], n: u64, two: &[u8], k: u64) -> usize
-    requires { ⌜ at + length (now one) + length (now two) + 40 ≤ length (now out) ⌝ }
+    requires { ⌜ at + length (now one) + length (now two) + 2 * numberRoom ≤ length (now out) ⌝ }
     ensures { λ r. ⌜ Wrote (now (out .entry)) at (twoFields (now (one .entry)) n (now (two .entry)) k) (now (out .exit)) r ⌝ }
-    ensures { λ r. ⌜ r ≤ at + length (now (one .entry)) + length (now (two .entry)) + 40 ⌝ }
+    ensures { λ r. ⌜ r ≤ at + length (now (one .entry)) + length (now (two .entry)) + 2 * numberRoom ⌝ }
 {
     let next = put_field(out, at, one, n);
     put_field(out, next, two, k)

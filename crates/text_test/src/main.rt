@@ -6,6 +6,7 @@
 use libc::STDIN_FILENO;
 use libc::STDOUT_FILENO;
 use printing::put_bytes;
+use transcript::TRANSCRIPT_ROOM;
 ghost use Prim.Native.Nat.{_≤_};
 ghost use lib.ListN.{length};
 
@@ -40,13 +41,13 @@ fn say(out: &[u8], length: usize) {
 }
 
 fn show(text: &[u8]) {
-    let mut out = [0u8; 655360];
+    let mut out = [0u8; TRANSCRIPT_ROOM];
     let length = transcript::transcript(text, &mut out);
     say(&out, length);
 }
 
 fn short_buffer() {
-    let mut out = [0u8; 655359];
+    let mut out = [0u8; TRANSCRIPT_ROOM - 1];
     let length = transcript::transcript(b"", &mut out);
     io::write_all(STDOUT_FILENO, b"# a buffer of 655359 bytes\n");
     io::print_decimal(STDOUT_FILENO, length as u64);
@@ -55,7 +56,7 @@ fn short_buffer() {
 
 // The text of the lines and 4,675 times the piece.
 fn long(lines: &[u8], piece: &[u8]) {
-    let mut text = [0u8; 65537];
+    let mut text = [0u8; text::MAX_TEXT + 1];
     let mut at = put_bytes(&mut text, 0, lines);
     let mut n: u32 = 0;
     while n < 4675 {
@@ -63,7 +64,7 @@ fn long(lines: &[u8], piece: &[u8]) {
         n += 1;
     }
     let first = 0;
-    if at <= 65537 {
+    if at <= text.len() {
         show(&text[first..at]);
     }
 }

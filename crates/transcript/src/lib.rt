@@ -24,9 +24,9 @@ ghost use Rattle.transcript.specs.Pieces.{eventRoom, lastRoom, pieceRoom
 ghost use Rattle.transcript.specs.Counts.{CountsSuffice};
 
 // A buffer with room for an event's line and the last line; one that holds any transcript.
-const PIECE_ROOM: usize = 174;
+pub const PIECE_ROOM: usize = 174;
 
-const TRANSCRIPT_ROOM: usize = 655360;
+pub const TRANSCRIPT_ROOM: usize = 655360;
 
 // How far a text is printed.
 pub struct Progress {
