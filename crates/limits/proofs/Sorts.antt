@@ -3,12 +3,21 @@
 use mathlib.Core.Path.{_≡_, sym}
 use mathlib.Core.Bool.{true, false, _&&_}
 use mathlib.Core.Logic.{_⊎_, inl, inr}
-use Prim.Native.Nat.{ℕ, _+_, _≤_, _<_}
+use Prim.Native.Nat.{ℕ, zero, suc, _+_, _≤_, _<_}
 use native.Mathlib.Omega.{arith}
 use native.Mathlib.Nat.{eq-or-lt-of-le}
 use borrow.Author.Tests.{ne-eqb}
 use Rattle.ledger.specs.Event.{inLimits, amountInLimits, whInLimits, markDaysInLimits, isChargeKind, isMarkKind, isPlanKind}
 use Rattle.ledger.specs.declared.Event.{Event}
+
+-- n is none of 1 to k, as the arms before tell it
+abbrev pub None : ℕ → ℕ → Type 0
+None n zero = Unit {0}
+None n (suc k) = None n k × (n ≡ suc k → ⊥)
+
+pub above : (n k : ℕ) → None n k → (n ≡ 0 → ⊥) → suc k ≤ n
+above n zero h z = omega arith
+above n (suc k) h z = let l : suc k ≤ n = above n k (h .0) z in omega (arith, h .1)
 
 -- a number of a range of two is one of them
 pub either : (n low : ℕ) → low ≤ n → n < low + 2 → (n ≡ low) ⊎ (n ≡ low + 1)

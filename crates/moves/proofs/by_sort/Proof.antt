@@ -1,25 +1,19 @@
 use borrow.Author.Needs.{needs}
 use mathlib.Core.Path.{_≡_, sym, _∙_}
 use mathlib.Core.Logic.{_⊎_, inl, inr}
-use Prim.Native.Nat.{ℕ, _+_, _≤_, zero-le}
-use native.Mathlib.Omega.{arith}
+use Prim.Native.Nat.{_≤_}
+use Rattle.limits.proofs.Sorts.{above}
 use Rattle.moves.specs.Moves.{creditOf, warnOf, markOf, bySort}
 use Rattle.moves.proofs.Arms.{of-sort}
 use Rattle.moves.proofs.Early.{Early, early, no-other}
 use Rattle.moves.proofs.by_sort.Statement.{statement}
 use Rattle.moves.proofs.by_sort.Tie as tie
 
--- a number that is none of the next six
-six : (n low : ℕ) → low ≤ n → (n ≡ low → ⊥) → (n ≡ low + 1 → ⊥) → (n ≡ low + 2 → ⊥) → (n ≡ low + 3 → ⊥) → (n ≡ low + 4 → ⊥) → (n ≡ low + 5 → ⊥) → low + 6 ≤ n
-six n low h a b c d e f = omega arith
-
 -- in the last arm the sort is none of the others
 other : (c : tie.At-match-came) → let n = c .before .args .e .sort in (n ≡ 0) ⊎ (12 ≤ n)
 other c = elim (c .match .came) [
   | inl w ↦ inl (w .keys12)
-  | inr w ↦ let r = w .rest .0 in
-      let low = r .0 .0 .0 .0 .0 .0 in
-      inr (six _ 6 (six _ 0 zero-le (w .rest .1) (low .0 .0 .0 .0 .1) (low .0 .0 .0 .1) (low .0 .0 .1) (low .0 .1) (low .1)) (r .0 .0 .0 .0 .0 .1) (r .0 .0 .0 .0 .1) (r .0 .0 .0 .1) (r .0 .0 .1) (r .0 .1) (r .1))
+  | inr w ↦ inr (above (c .before .args .e .sort) 11 (w .rest .0) (w .rest .1))
 ]
 
 known : (c : tie.Start) → Early (c .args .t) (c .args .m .totals) (c .args .e)
