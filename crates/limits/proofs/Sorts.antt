@@ -1,6 +1,6 @@
 -- What `inLimits` asks of each sort.
 -- Assumes nothing.
-use mathlib.Core.Path.{_≡_, sym}
+use mathlib.Core.Path.{_≡_, sym, ap}
 use mathlib.Core.Bool.{true, false, _&&_}
 use mathlib.Core.Logic.{_⊎_, inl, inr}
 use Prim.Native.Nat.{ℕ, zero, suc, _+_, _≤_, _<_}
@@ -9,6 +9,13 @@ use native.Mathlib.Nat.{eq-or-lt-of-le}
 use borrow.Author.Tests.{ne-eqb}
 use Rattle.ledger.specs.Event.{inLimits, amountInLimits, whInLimits, markDaysInLimits, isChargeKind, isMarkKind, isPlanKind}
 use Rattle.ledger.specs.declared.Event.{Event}
+
+-- the event with its sort as a number: at a literal one, `inLimits` unfolds to what it asks of that sort
+abbrev pub ofSort : ℕ → Event → Event
+ofSort k e = record { sort = k; day = e .day; amount = e .amount; number = e .number; kind = e .kind; usage = e .usage; wh = e .wh; from = e .from; to = e .to }
+
+pub of-sort : (e : Event) {k : ℕ} → e .sort ≡ k → inLimits e ≡ inLimits (ofSort k e)
+of-sort e h = ap (λ (k : ℕ). inLimits (ofSort k e)) h
 
 -- n is none of 1 to k, as the arms before tell it
 abbrev pub None : ℕ → ℕ → Type 0

@@ -1,7 +1,7 @@
 -- What holds once the checks of every event have passed. Assumes nothing.
 use mathlib.Core.Path.{_≡_, refl, sym, _∙_}
 use mathlib.Core.Bool.{Bool, true, false, cond, _||_, _&&_, false≢true}
-use mathlib.Core.Logic.{_⊎_}
+use mathlib.Core.Logic.{_⊎_, inl, inr}
 use Prim.Native.Nat.{ℕ, suc, _≤_, _<_}
 use native.Mathlib.Omega.{arith}
 use lib.Dec.{leb, eqb}
@@ -12,7 +12,7 @@ use Rattle.calendar.proofs.Laws.{month-limit}
 use Rattle.tariff.specs.Tariff.{costOf}
 use Rattle.terms.specs.Terms.{validTerms, termsCode, within}
 use Rattle.terms.specs.declared.Terms.{Terms}
-use Rattle.ledger.specs.Event.{inLimits, isChargeKind, isMarkKind}
+use Rattle.ledger.specs.Event.{inLimits, markDaysInLimits, isChargeKind, isMarkKind}
 use Rattle.ledger.specs.declared.Event.{Event}
 use Rattle.limits.proofs.Sorts as sorts
 use Rattle.moves.specs.Moves.{isAccount, earlyCode}
@@ -128,23 +128,35 @@ pub record Between (low high n : ℕ) : Type 0 where
 between : (low high n : ℕ) → within low high n ≡ true → Between low high n
 between low high n h = let l = leb-and low n _ h in record { least = l .0; most = leb-true n high (l .1) }
 
-pub amount-limits : (e : Event) → (e .sort ≡ 1) ⊎ (e .sort ≡ 3) → inLimits e ≡ true → Between 1 10000000 (e .amount)
-amount-limits e s h = between 1 10000000 (e .amount) (rw (sorts.amounts e s) at h)
+-- what the limits ask of the event's sort
+limits-of : (e : Event) {k : ℕ} → e .sort ≡ k → inLimits e ≡ true → inLimits (sorts.ofSort k e) ≡ true
+limits-of e s h = sym (sorts.of-sort e s) ∙ h
+
+pub pay-limits : (e : Event) → e .sort ≡ 1 → inLimits e ≡ true → Between 1 10000000 (e .amount)
+unfolding inLimits
+pay-limits e s h = between 1 10000000 (e .amount) (limits-of e s h)
+
+pub credit-limits : (e : Event) → e .sort ≡ 3 → inLimits e ≡ true → Between 1 10000000 (e .amount)
+unfolding inLimits
+credit-limits e s h = between 1 10000000 (e .amount) (limits-of e s h)
 
 pub record ChargeLimits (e : Event) : Type 0 where
   pub kind : Between 1 5 (e .kind)
   pub amount : Between 1 10000000 (e .amount)
 
 pub charge-limits : (e : Event) → e .sort ≡ 4 → inLimits e ≡ true → ChargeLimits e
+unfolding inLimits
 charge-limits e s h =
-    let l : isChargeKind (e .kind) && within 1 10000000 (e .amount) ≡ true = rw (sorts.charges e s) at h in
+    let l : isChargeKind (e .kind) && within 1 10000000 (e .amount) ≡ true = limits-of e s h in
     record {
       kind = between 1 5 (e .kind) (and-left _ _ l);
       amount = between 1 10000000 (e .amount) (and-right (isChargeKind (e .kind)) _ l);
     }
 
 pub usage-limits : (e : Event) → (e .sort ≡ 5) ⊎ (e .sort ≡ 6) → inLimits e ≡ true → e .wh ≤ 9999999
-usage-limits e s h = leb-true (e .wh) 9999999 (rw (sorts.usages e s) at h)
+unfolding inLimits
+usage-limits e (inl s) h = leb-true (e .wh) 9999999 (limits-of e s h)
+usage-limits e (inr s) h = leb-true (e .wh) 9999999 (limits-of e s h)
 
 -- the cost of a usage day, for an estimate and for a read
 pub cost-on : (t : Terms) (s : Totals) (e : Event) → Early t s e → (e .sort ≡ 5) ⊎ (e .sort ≡ 6) → costOf (e .wh) (t .price) ≤ 9999899
@@ -157,8 +169,9 @@ pub record MarkLimits (e : Event) : Type 0 where
   pub to : e .to ≤ 399
 
 pub mark-limits : (e : Event) → e .sort ≡ 8 → inLimits e ≡ true → MarkLimits e
+unfolding inLimits
 mark-limits e s h =
-    let l = rw (sorts.marks e s) at h in
+    let l : isMarkKind (e .kind) && markDaysInLimits e ≡ true = limits-of e s h in
     let day = leb-and (e .day) (e .from) _ (and-right (isMarkKind (e .kind)) _ l) in
     let from = leb-and (e .from) (e .to) _ (day .1) in
     record {
@@ -167,6 +180,3 @@ mark-limits e s h =
       from = from .0;
       to = leb-true (e .to) 399 (from .1);
     }
-
-pub plan-limits : (e : Event) → e .sort ≡ 9 → inLimits e ≡ true → Between 1 2 (e .kind)
-plan-limits e s h = between 1 2 (e .kind) (rw (sorts.plans e s) at h)

@@ -23,14 +23,14 @@ use Rattle.account.specs.declared.Account.{Account}
 use Rattle.moves.specs.declared.Payment.{Payment}
 use Rattle.moves.specs.declared.Day.{Day}
 use Rattle.moves.proofs.Cost.{cost-limit}
-use Rattle.moves.proofs.Early.{amount-limits, charge-limits, usage-limits}
+use Rattle.moves.proofs.Early.{pay-limits, charge-limits, usage-limits}
 use Rattle.refinement.specs.Agree.{CellsAgree, recordedUsage, recordedPayment, recordedMarks, warnedOn}
 use Rattle.refinement.proofs.Fields as F
 
 -- ---- the fields that hold a limit, whatever the sort
 module _ (t : Terms) (e : Event) (p : ℕ) (l : Entries) (h : inLimits e ≡ true) where
   pub amounts-keep : ((n : ℕ) → paidAmount l n ≤ 10000000) → (n : ℕ) → paidAmount (F.more e p l) n ≤ 10000000
-  amounts-keep k n = F.amount-limit e p l n 10000000 (λ y. amount-limits e (inl (eqb-true (e .sort) 1 y)) h .most) (k n)
+  amounts-keep k n = F.amount-limit e p l n 10000000 (λ y. pay-limits e (eqb-true (e .sort) 1 y) h .most) (k n)
 
   pub charged-keep : ((m k : ℕ) → chargesIn t l m k ≤ length l * 10000000) → (m k : ℕ) → chargesIn t (F.more e p l) m k ≤ length (F.more e p l) * 10000000
   charged-keep c m k = rw (F.charges-more e p l t m k) (decide (isCharge e && (eqb (e .kind) k && eqb (monthOf t (e .day)) m))

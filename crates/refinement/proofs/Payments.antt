@@ -5,7 +5,6 @@ use native.Mathlib.Omega.{arith}
 use native.Mathlib.Nat.{mod-eq-of-lt}
 use mathlib.Core.Path.{_≡_, refl, sym, ap, _∙_}
 use mathlib.Core.Bool.{true, false, true≢false}
-use mathlib.Core.Logic.{inl, inr}
 use lib.ListN.{getD}
 use lib.Dec.{ltb, leb}
 use lib.IntN.{pos, _+ℤ_, _-ℤ_}
@@ -25,7 +24,7 @@ use Rattle.moves.specs.Moves.{maxTotal, cellsBefore, partIn, chargePlace, payOf
 use Rattle.moves.specs.declared.Move.{Move}
 use Rattle.moves.specs.declared.Payment.{Payment}
 use Rattle.moves.proofs.Arms.{branch}
-use Rattle.moves.proofs.Early.{amount-limits, charge-limits}
+use Rattle.moves.proofs.Early.{pay-limits, credit-limits, charge-limits}
 use Rattle.account.specs.Record.{noPayment}
 use Rattle.account.specs.Step.{numberAt, cellsOf}
 use Rattle.account.specs.declared.Account.{Account}
@@ -62,7 +61,7 @@ module _ (a : Account) (l : Ledger) (e : Event) (g : Agree (a .terms) a l) (s : 
         balance = raised a l g (e .amount - p) ∙ ap (λ (q : ℕ). diff (a .totals .credit + (e .amount - q)) (a .totals .debit)) (sym part-is);
         plan = ap (λ (q : ℕ). a .totals .plan - q) part-is ∙ ap (λ (r : ℕ). r - p) (g .sums .plan);
         on = g .sums .on;
-        credit-most = omega (arith, g .bounds .credit, amount-limits e (inl k) (h .limits) .most);
+        credit-most = omega (arith, g .bounds .credit, pay-limits e k (h .limits) .most);
         debit-most = omega (arith, g .bounds .debit);
         plan-most = omega (arith, g .bounds .plan);
       }))
@@ -111,7 +110,7 @@ module _ (a : Account) (l : Ledger) (e : Event) (g : Agree (a .terms) a l) (s : 
         balance = raised a l g (e .amount);
         plan = g .sums .plan;
         on = g .sums .on;
-        credit-most = omega (arith, g .bounds .credit, amount-limits e (inr k) (h .limits) .most);
+        credit-most = omega (arith, g .bounds .credit, credit-limits e k (h .limits) .most);
         debit-most = omega (arith, g .bounds .debit);
         plan-most = omega (arith, g .bounds .plan);
       })
