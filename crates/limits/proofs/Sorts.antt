@@ -1,13 +1,12 @@
--- What `inLimits` asks of each sort.
+-- What `inLimits` asks of an event, by its sort.
 -- Assumes nothing.
-use mathlib.Core.Path.{_≡_, sym, ap}
-use mathlib.Core.Bool.{true, false, _&&_}
+use mathlib.Core.Path.{_≡_, ap}
+use mathlib.Core.Bool.{false}
 use mathlib.Core.Logic.{_⊎_, inl, inr}
-use Prim.Native.Nat.{ℕ, zero, suc, _+_, _≤_, _<_}
+use Prim.Native.Nat.{ℕ, zero, suc, _≤_}
 use native.Mathlib.Omega.{arith}
-use native.Mathlib.Nat.{eq-or-lt-of-le}
 use borrow.Author.Tests.{ne-eqb}
-use Rattle.ledger.specs.Event.{inLimits, amountInLimits, whInLimits, markDaysInLimits, isChargeKind, isMarkKind, isPlanKind}
+use Rattle.ledger.specs.Event.{inLimits}
 use Rattle.ledger.specs.declared.Event.{Event}
 
 -- the event with its sort as a number: at a literal one, `inLimits` unfolds to what it asks of that sort
@@ -25,40 +24,6 @@ None n (suc k) = None n k × (n ≡ suc k → ⊥)
 pub above : (n k : ℕ) → None n k → (n ≡ 0 → ⊥) → suc k ≤ n
 above n zero h z = omega arith
 above n (suc k) h z = let l : suc k ≤ n = above n k (h .0) z in omega (arith, h .1)
-
--- a number of a range of two is one of them
-pub either : (n low : ℕ) → low ≤ n → n < low + 2 → (n ≡ low) ⊎ (n ≡ low + 1)
-either n low l h = elim (eq-or-lt-of-le l) [ inl e ↦ inl (sym e) | inr g ↦ inr (omega arith) ]
-
-pub amounts : (e : Event) → (e .sort ≡ 1) ⊎ (e .sort ≡ 3) → inLimits e ≡ amountInLimits e
-unfolding inLimits
-amounts e (inl h) = rw h
-amounts e (inr h) = rw h
-
-pub charges : (e : Event) → e .sort ≡ 4 → inLimits e ≡ (isChargeKind (e .kind) && amountInLimits e)
-unfolding inLimits
-charges e h = rw h
-
-pub usages : (e : Event) → (e .sort ≡ 5) ⊎ (e .sort ≡ 6) → inLimits e ≡ whInLimits e
-unfolding inLimits
-usages e (inl h) = rw h
-usages e (inr h) = rw h
-
-pub marks : (e : Event) → e .sort ≡ 8 → inLimits e ≡ (isMarkKind (e .kind) && markDaysInLimits e)
-unfolding inLimits
-marks e h = rw h
-
-pub plans : (e : Event) → e .sort ≡ 9 → inLimits e ≡ isPlanKind (e .kind)
-unfolding inLimits
-plans e h = rw h
-
--- the sorts with no field that has limits
-pub plain : (e : Event) → ((e .sort ≡ 2) ⊎ (e .sort ≡ 7)) ⊎ ((e .sort ≡ 10) ⊎ (e .sort ≡ 11)) → inLimits e ≡ true
-unfolding inLimits
-plain e (inl (inl h)) = rw h
-plain e (inl (inr h)) = rw h
-plain e (inr (inl h)) = rw h
-plain e (inr (inr h)) = rw h
 
 pub no-sort : (e : Event) → (e .sort ≡ 0) ⊎ (12 ≤ e .sort) → inLimits e ≡ false
 unfolding inLimits

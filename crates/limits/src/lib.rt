@@ -77,12 +77,17 @@ pub fn check(e: Event) -> u8
 {
     let sort = e.sort;
     match sort {
-        1 | 3 => amount_code(e.amount),
-        4 => charge_code(e.kind, e.amount),
-        5 | 6 => wh_code(e.wh),
-        8 => mark_code(e.kind, e.day, e.from, e.to),
-        9 => plan_code(e.kind),
-        2 | 7 | 10 | 11 => 0,
-        0 | 12..=4294967295 => 3,
+        1 => return amount_code(e.amount),
+        2 => return 0,
+        3 => return amount_code(e.amount),
+        4 => return charge_code(e.kind, e.amount),
+        5 => return wh_code(e.wh),
+        6 => return wh_code(e.wh),
+        7 => return 0,
+        8 => return mark_code(e.kind, e.day, e.from, e.to),
+        9 => return plan_code(e.kind),
+        10 => return 0,
+        11 => return 0,
+        0 | 12..=4294967295 => return 3,
     }
 }
