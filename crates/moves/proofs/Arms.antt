@@ -11,12 +11,9 @@ use Rattle.marks.specs.Marks.{latestWarning, isMissing}
 use Rattle.terms.specs.declared.Terms.{Terms}
 use Rattle.ledger.specs.Event.{inLimits}
 use Rattle.ledger.specs.declared.Event.{Event}
-use Rattle.moves.specs.Moves.{maxTotal, earlyCode, move, refusing, bySort, moveOf, byUsage, chargePlace, planConditionMet, barredOn, payOf, reverseOf, creditOf, chargeOf, estimateOf, estimatedOf, readOf, meteredOf, warnOf, markOf, deferringOf, planOf, servedOf, disconnectOf, connectOf}
+use Rattle.moves.specs.Moves.{maxTotal, earlyCode, refusing, bySort, moveOf, byUsage, chargePlace, planConditionMet, barredOn, payOf, reverseOf, creditOf, chargeOf, estimateOf, estimatedOf, readOf, meteredOf, warnOf, markOf, deferringOf, planOf, servedOf, disconnectOf, connectOf}
 use Rattle.moves.specs.declared.Usage.{Usage}
 use Rattle.moves.specs.declared.Usage.the-variants.{Blank, Estimated, Metered}
-use Rattle.moves.specs.declared.Day.{Day}
-use Rattle.moves.specs.declared.Payment.{Payment}
-use Rattle.moves.specs.declared.Totals.{Totals}
 use Rattle.moves.specs.declared.Move.{Move}
 use Rattle.moves.proofs.Ways as ways
 use Rattle.moves.proofs.Early.{Early, early, month-on, charge-limits}
@@ -87,13 +84,12 @@ module _ (t : Terms) (m : Move) (charges marks warned : List ℕ) (e : Event) (h
   no : (k : ℕ) → Sound m (refusing m k)
   no k = record { number = h .0; place = h .1; refused = λ _. refl }
 
-  taken : {value : ℕ} {s : Totals} {number : ℕ} {payment : Payment} {day : Day} {place sum warning kind from to : ℕ} → number < 128 → place < 75
-      → Sound m (move 0 value s number payment day place sum warning kind from to)
-  taken n p = record { number = n; place = p; refused = λ z. absurd (z refl) }
+  taken : {x : Move} → x .code ≡ 0 → x .number < 128 → x .place < 75 → Sound m x
+  taken c n p = record { number = n; place = p; refused = λ z. absurd (z c) }
 
   -- accepted, at the same places
-  yes : {value : ℕ} {s : Totals} {payment : Payment} {day : Day} {sum warning kind from to : ℕ} → Sound m (move 0 value s (m .number) payment day (m .place) sum warning kind from to)
-  yes = taken (h .0) (h .1)
+  yes : {x : Move} → x .code ≡ 0 → x .number ≡ m .number → x .place ≡ m .place → Sound m x
+  yes c n p = taken c (rw n (h .0)) (rw p (h .1))
 
   charge-place : Early t (m .totals) e → e .sort ≡ 4 → chargePlace t e < 75
   charge-place k s = let f = charge-limits e s (k .limits) in omega (arith, month-on t (m .totals) e k, f .kind .least, f .kind .most)
@@ -101,18 +97,18 @@ module _ (t : Terms) (m : Move) (charges marks warned : List ℕ) (e : Event) (h
   by-sorts : Early t (m .totals) e → Sound m (bySort t m charges marks warned e (e .sort))
   unfolding payOf reverseOf creditOf chargeOf estimateOf estimatedOf readOf meteredOf warnOf markOf planOf deferringOf servedOf disconnectOf connectOf
   by-sorts k = by-sort t m charges marks warned e (Sound m) (record {
-    pays = λ _. branch (Sound m) (leb 128 (m .totals .count)) (λ _. no 5) (λ f. taken (leb-false 128 (m .totals .count) f) (h .1));
-    reverses = λ _. test (leb (m .totals .count) (e .number)) (no 6) (test (m .payment .reversed) (no 6) yes);
-    credits = λ _. yes;
-    charged = λ s. test (ltb maxTotal (getD charges (chargePlace t e) 0)) (no 1) (taken (h .0) (charge-place k s));
-    estimates = λ _. test (leb (e .day) (e .usage)) (no 7) (by-usage (m .day .usage) yes (λ _. no 8) (no 8));
-    reads = λ _. test (leb (e .day) (e .usage)) (no 7) (by-usage (m .day .usage) yes (λ _. yes) (no 8));
-    warns = λ _. yes;
-    marked = λ _. yes;
-    plans = λ _. test (planConditionMet t (m .totals) marks e) (test (ltb 0 (m .totals .plan)) (no 10) yes) (no 9);
+    pays = λ _. branch (Sound m) (leb 128 (m .totals .count)) (λ _. no 5) (λ f. taken refl (leb-false 128 (m .totals .count) f) (h .1));
+    reverses = λ _. test (leb (m .totals .count) (e .number)) (no 6) (test (m .payment .reversed) (no 6) (yes refl refl refl));
+    credits = λ _. yes refl refl refl;
+    charged = λ s. test (ltb maxTotal (getD charges (chargePlace t e) 0)) (no 1) (taken refl (h .0) (charge-place k s));
+    estimates = λ _. test (leb (e .day) (e .usage)) (no 7) (by-usage (m .day .usage) (yes refl refl refl) (λ _. no 8) (no 8));
+    reads = λ _. test (leb (e .day) (e .usage)) (no 7) (by-usage (m .day .usage) (yes refl refl refl) (λ _. yes refl refl refl) (no 8));
+    warns = λ _. yes refl refl refl;
+    marked = λ _. yes refl refl refl;
+    plans = λ _. test (planConditionMet t (m .totals) marks e) (test (ltb 0 (m .totals .plan)) (no 10) (yes refl refl refl)) (no 9);
     disconnects = λ _. test (not (m .totals .on)) (no 11) (test (leb (m .totals .debit + t .cutoff) (m .totals .credit)) (no 12)
-        (test (isMissing (latestWarning warned (e .day))) (no 13) (test (barredOn t marks e) (no 14) yes)));
-    connects = λ _. test (m .totals .on) (no 11) (test (ltb (m .totals .credit) (m .totals .debit + t .connect)) (no 12) yes);
+        (test (isMissing (latestWarning warned (e .day))) (no 13) (test (barredOn t marks e) (no 14) (yes refl refl refl))));
+    connects = λ _. test (m .totals .on) (no 11) (test (ltb (m .totals .credit) (m .totals .debit + t .connect)) (no 12) (yes refl refl refl));
     other = λ _. no 3;
   })
 
