@@ -11,21 +11,25 @@ use Rattle.moves.proofs.Arms.{Sound, refused-early, goes-on, sound}
 use Rattle.moves.proofs.move_of.Statement.{statement}
 use Rattle.moves.proofs.move_of.Tie as tie
 
+abbrev before : tie.Start → Move
+before c = let a = c .args in cellsBefore (a .s) (a .payment) (a .day) (now (a .charges)) (now (a .warned)) (a .e)
+
+abbrev after : tie.Start → Move
+after c = let a = c .args in moveOf (a .t) (before c) (now (a .charges)) (now (a .marks)) (now (a .warned)) (a .e)
+
 -- the move's places are there
-there : (c : tie.Start) → let a = c .args in let m = cellsBefore (a .s) (a .payment) (a .day) (now (a .charges)) (now (a .warned)) (a .e) in Sound m (moveOf (a .t) m (now (a .charges)) (now (a .marks)) (now (a .warned)) (a .e))
+there : (c : tie.Start) → Sound (before c) (after c)
 unfolding cellsBefore
 there c = sound _ _ _ _ _ _ (mod-lt (c .args .e .number) (omega arith), omega arith)
 
-is-move : (c : tie.Start) (r : Move) → let a = c .args in r ≡ moveOf (a .t) (cellsBefore (a .s) (a .payment) (a .day) (now (a .charges)) (now (a .warned)) (a .e)) (now (a .charges)) (now (a .marks)) (now (a .warned)) (a .e)
-    → IsMove (a .t) (a .s) (a .payment) (a .day) (now (a .charges)) (now (a .marks)) (now (a .warned)) (a .e) r
+is-move : (c : tie.Start) (r : Move) → r ≡ after c → let a = c .args in IsMove (a .t) (a .s) (a .payment) (a .day) (now (a .charges)) (now (a .marks)) (now (a .warned)) (a .e) r
 is-move c r q = record { move = q; number = rw q (there c .number); place = rw q (there c .place) }
 
 returns : tie.Need-returns
 unfolding cellsBefore
 returns c =
     let s = c .before .before .before .before .before .before .before in
-    let a = s .args in
-    is-move s _ (c .refuse .ensures ∙ ap (refusing (cellsBefore (a .s) (a .payment) (a .day) (now (a .charges)) (now (a .warned)) (a .e))) (c .before .before .early .ensures) ∙ sym (refused-early _ _ _ _ _ _ (λ z. c .before .if1 .taken (c .before .before .early .ensures ∙ z))))
+    is-move s _ (c .refuse .ensures ∙ ap (refusing (before s)) (c .before .before .early .ensures) ∙ sym (refused-early _ _ _ _ _ _ (λ z. c .before .if1 .taken (c .before .before .early .ensures ∙ z))))
 
 returns-2 : tie.Need-returns-2
 unfolding cellsBefore
