@@ -39,6 +39,10 @@ isDisconnect e = eqb (e .sort) 10
 abbrev pub isConnect : Event → Bool
 isConnect e = eqb (e .sort) 11
 
+-- the last sort's number
+abbrev pub sortCount : ℕ
+sortCount = 11
+
 -- "amount (1 to 10,000,000)": the largest, in cents
 abbrev pub maxAmount : ℕ
 maxAmount = 10000000

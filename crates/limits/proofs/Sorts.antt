@@ -3,10 +3,10 @@
 use mathlib.Core.Path.{_≡_, ap}
 use mathlib.Core.Bool.{false}
 use mathlib.Core.Logic.{_⊎_, inl, inr}
-use Prim.Native.Nat.{ℕ, zero, suc, _≤_}
+use Prim.Native.Nat.{ℕ, zero, suc, _≤_, _<_}
 use native.Mathlib.Omega.{arith}
 use borrow.Author.Tests.{ne-eqb}
-use Rattle.ledger.specs.Event.{inLimits}
+use Rattle.ledger.specs.Event.{inLimits, sortCount}
 use Rattle.ledger.specs.declared.Event.{Event}
 
 -- the event with its sort as a number: at a literal one, `inLimits` unfolds to what it asks of that sort
@@ -25,7 +25,10 @@ pub above : (n k : ℕ) → None n k → (n ≡ 0 → ⊥) → suc k ≤ n
 above n zero h z = omega arith
 above n (suc k) h z = let l : suc k ≤ n = above n k (h .0) z in omega (arith, h .1)
 
-pub no-sort : (e : Event) → (e .sort ≡ 0) ⊎ (12 ≤ e .sort) → inLimits e ≡ false
+abbrev pub NoSort : ℕ → Type 0
+NoSort n = (n ≡ 0) ⊎ (sortCount < n)
+
+pub no-sort : (e : Event) → NoSort (e .sort) → inLimits e ≡ false
 unfolding inLimits
 no-sort e (inl h) = rw h
 no-sort e (inr h) =

@@ -117,8 +117,8 @@ month-on t s e k = let h = is-day t s e k in rw h (month-limit (t .opened) (e .d
 
 -- ---- the event's fields, by its sort
 
--- the sort is one of 1 to 11
-pub no-other : (e : Event) → inLimits e ≡ true → (e .sort ≡ 0) ⊎ (12 ≤ e .sort) → ⊥
+-- the sort is one of the sorts
+pub no-other : (e : Event) → inLimits e ≡ true → sorts.NoSort (e .sort) → ⊥
 no-other e h s = false≢true (sym (sorts.no-sort e s) ∙ h)
 
 pub record Between (low high n : ℕ) : Type 0 where

@@ -5,7 +5,7 @@ use mathlib.Core.Path.{_≡_, refl, sym, ap, _∙_}
 use mathlib.Core.Bool.{Bool, cond}
 use mathlib.Core.Logic.{inl, inr}
 use borrow.Author.Needs.{needs}
-use Rattle.ledger.specs.Event.{inLimits}
+use Rattle.ledger.specs.Event.{inLimits, sortCount}
 use Rattle.ledger.specs.declared.Event.{Event}
 use Rattle.limits.proofs.Sorts.{ofSort, of-sort, above, no-sort}
 use Rattle.limits.proofs.check.Statement.{statement}
@@ -39,4 +39,4 @@ check-spec =
     (λ c. by (c .before .args .e) (c .match .keys10) _ refl)
     (λ c. by (c .before .args .e) (c .match .keys11) _ refl)
     (λ c. simp (no-sort (c .before .args .e) (inl (c .match .keys12))))
-    (λ c. simp (no-sort (c .before .args .e) (inr (above (c .before .args .e .sort) 11 (c .match .rest .0) (c .match .rest .1))))))
+    (λ c. simp (no-sort (c .before .args .e) (inr (above (c .before .args .e .sort) sortCount (c .match .rest .0) (c .match .rest .1))))))

@@ -1,8 +1,8 @@
 use borrow.Author.Needs.{needs}
-use mathlib.Core.Path.{_≡_, sym, _∙_}
-use mathlib.Core.Logic.{_⊎_, inl, inr}
-use Prim.Native.Nat.{_≤_}
-use Rattle.limits.proofs.Sorts.{above}
+use mathlib.Core.Path.{sym, _∙_}
+use mathlib.Core.Logic.{inl, inr}
+use Rattle.ledger.specs.Event.{sortCount}
+use Rattle.limits.proofs.Sorts.{above, NoSort}
 use Rattle.moves.specs.Moves.{creditOf, warnOf, markOf, bySort}
 use Rattle.moves.proofs.Arms.{of-sort}
 use Rattle.moves.proofs.Early.{Early, early, no-other}
@@ -10,10 +10,10 @@ use Rattle.moves.proofs.by_sort.Statement.{statement}
 use Rattle.moves.proofs.by_sort.Tie as tie
 
 -- in the last arm the sort is none of the others
-other : (c : tie.At-match-came) → let n = c .before .args .e .sort in (n ≡ 0) ⊎ (12 ≤ n)
+other : (c : tie.At-match-came) → NoSort (c .before .args .e .sort)
 other c = elim (c .match .came) [
   | inl w ↦ inl (w .keys12)
-  | inr w ↦ inr (above (c .before .args .e .sort) 11 (w .rest .0) (w .rest .1))
+  | inr w ↦ inr (above (c .before .args .e .sort) sortCount (w .rest .0) (w .rest .1))
 ]
 
 known : (c : tie.Start) → Early (c .args .t) (c .args .m .totals) (c .args .e)
