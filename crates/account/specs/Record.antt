@@ -1,5 +1,4 @@
 -- The account record: its blank cells, and a fresh one.
-use Prim.Native.Nat.{ℕ}
 use mathlib.Core.Bool.{false}
 use lib.ListN.{replicate}
 use Rattle.calendar.specs.Calendar.{dayCount}

@@ -13,7 +13,7 @@ use Rattle.ledger.specs.declared.Event.{Event}
 use Rattle.ledger.specs.Event.{isWarn, maxAmount, chargeKindCount}
 use Rattle.ledger.specs.Entries.{estimateCost, Entries, any, lastDay, paymentCount, paidOn, paidAmount, paidPart, reversed, UsageDay, blank, estimated, metered, usageDay, covered}
 use Rattle.ledger.specs.Rules.{Ledger, maxEvents, maxPayments}
-use Rattle.ledger.specs.Ledger.{Outcome, opening, ledgerStep, ledgerAfter}
+use Rattle.ledger.specs.Ledger.{opening, ledgerStep, ledgerAfter}
 use Rattle.ledger.specs.Calls.{ledgerCodes}
 use Rattle.ledger.specs.Invariant.{Invariant}
 use Rattle.ledger.specs.Sums.{standingCost}
@@ -26,7 +26,6 @@ use Rattle.moves.specs.declared.Usage.the-variants.{Blank, Estimated, Metered}
 use Rattle.moves.specs.declared.Payment.{Payment}
 use Rattle.moves.specs.declared.Totals.{Totals}
 use Rattle.account.specs.declared.Account.{Account}
-use Rattle.account.specs.declared.Posted.{Posted}
 use Rattle.refinement.specs.Lists.{accountAfter, codesOf}
 
 -- a usage day's state as the record has it

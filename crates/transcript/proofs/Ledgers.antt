@@ -11,7 +11,6 @@ use Rattle.terms.specs.Terms.{validTerms, zeroTerms}
 use Rattle.terms.specs.declared.Terms.{Terms}
 use Rattle.ledger.specs.Rules.{Ledger}
 use Rattle.ledger.specs.Ledger.{opening, ledgerStep}
-use Rattle.ledger.specs.Sums.{standingCost}
 use Rattle.ledger.proofs.Cases.{decide}
 use Rattle.account.specs.Record.{fresh}
 use Rattle.account.specs.Step.{stepOf, openOf}
