@@ -29,7 +29,7 @@ pub account-of-spec : {M : Type 1} → statement M
 account-of-spec =
     tie.close
     (tie.spec
-    (search needs) (search needs) (search needs)
+    (λ c κs. search needs) (λ c κs. search needs) (λ c κs. search needs)
     returns
-    (search needs) (search needs) (search needs)
+    (λ c κs. search needs) (λ c κs. search needs) (λ c κs. search needs)
     returns-2)

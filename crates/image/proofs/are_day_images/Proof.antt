@@ -32,8 +32,8 @@ are-day-images-spec =
     Inv-loop
     μ-loop
     (λ c. starts isDayImage 400 _ (search needs))
-    (search needs) (search needs) (search needs)
+    (λ c. search needs) (λ c. search needs) (λ c κs. search needs)
     returns
-    (search needs) (search needs)
+    (λ c. search needs) (λ c. search needs)
     loop-again
     (λ c. let l = c .before .loop in sym (none-left isDayImage 400 _ (l .i) (c .loop-test .left) (l .inv))))

@@ -34,8 +34,8 @@ are-payment-images-spec =
     Inv-loop
     μ-loop
     (λ c. starts isPaymentImage 128 _ (search needs))
-    (search needs) (search needs)
+    (λ c. search needs) (λ c. search needs)
     returns
-    (search needs) (search needs)
+    (λ c. search needs) (λ c. search needs)
     loop-again
     (λ c. let l = c .before .loop in sym (none-left isPaymentImage 128 _ (l .i) (c .loop-test .left) (l .inv))))

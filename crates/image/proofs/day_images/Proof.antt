@@ -25,6 +25,7 @@ day-images-spec =
     Inv-loop
     μ-loop
     (λ c. begins dayImage 400 _ (record { state = 0; wh = 0; cost = 0 }) (search needs))
-    (search needs) (search needs) (search needs) (search needs) (search needs) (search needs) (search needs)
+    (λ c. search needs) (λ c. search needs) (λ c κs. search needs) (λ c. search needs) (λ c. search needs) (λ c. search needs)
+    (λ c. search needs)
     loop-again
     (λ c. let l = c .before .loop in ends dayImage 400 _ (l .images) (l .i) (c .loop-test .left) (l .inv)))

@@ -28,6 +28,7 @@ days-of-spec =
     Inv-loop
     μ-loop
     (λ c. begins dayOf 400 _ blankDay (search needs))
-    (search needs) (search needs) (search needs) (search needs) (search needs) (search needs) (search needs)
+    (λ c. search needs) (λ c. search needs) (λ c κs. search needs) (λ c. search needs) (λ c. search needs) (λ c. search needs)
+    (λ c. search needs)
     loop-again
     (λ c. let l = c .before .loop in ends dayOf 400 _ (l .days) (l .i) (c .loop-test .left) (l .inv)))

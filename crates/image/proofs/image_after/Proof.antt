@@ -18,7 +18,7 @@ pub image-after-spec : {M : Type 1} → statement M
 image-after-spec =
     tie.close
     (tie.spec
-    (search needs)
+    (λ c κs. search needs)
     returns
-    (search needs)
+    (λ c κs. search needs)
     returns-2)

@@ -14,5 +14,5 @@ pub image-of-spec : {M : Type 1} → statement M
 image-of-spec =
     tie.close
     (tie.spec
-    (search needs) (search needs) (search needs)
+    (λ c κs. search needs) (λ c κs. search needs) (λ c κs. search needs)
     returns)

@@ -33,7 +33,7 @@ is-image-spec =
     (tie.spec
     returns
     returns-2
-    (search needs)
+    (λ c κs. search needs)
     returns-3
-    (search needs)
+    (λ c κs. search needs)
     returns-4)

@@ -15,5 +15,5 @@ pub open-spec : {M : Type 1} → statement M
 open-spec =
     tie.close
     (tie.spec
-    (search needs) (search needs)
+    (λ c κs. search needs) (λ c κs. search needs)
     returns)

@@ -13,5 +13,5 @@ pub payment-image-spec : {M : Type 1} → statement M
 payment-image-spec =
     tie.close
     (tie.spec
-    (search needs)
+    (λ c κs. search needs)
     returns)

@@ -25,6 +25,7 @@ payment-images-spec =
     Inv-loop
     μ-loop
     (λ c. begins paymentImage 128 _ (record { day = 0; amount = 0; part = 0; reversed = 0 }) (search needs))
-    (search needs) (search needs) (search needs) (search needs) (search needs) (search needs) (search needs)
+    (λ c. search needs) (λ c. search needs) (λ c κs. search needs) (λ c. search needs) (λ c. search needs) (λ c. search needs)
+    (λ c. search needs)
     loop-again
     (λ c. let l = c .before .loop in ends paymentImage 128 _ (l .images) (l .i) (c .loop-test .left) (l .inv)))

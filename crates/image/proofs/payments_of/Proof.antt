@@ -26,6 +26,7 @@ payments-of-spec =
     Inv-loop
     μ-loop
     (λ c. begins paymentOf 128 _ noPayment (search needs))
-    (search needs) (search needs) (search needs) (search needs) (search needs) (search needs) (search needs)
+    (λ c. search needs) (λ c. search needs) (λ c κs. search needs) (λ c. search needs) (λ c. search needs) (λ c. search needs)
+    (λ c. search needs)
     loop-again
     (λ c. let l = c .before .loop in ends paymentOf 128 _ (l .payments) (l .i) (c .loop-test .left) (l .inv)))

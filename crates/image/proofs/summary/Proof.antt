@@ -14,5 +14,5 @@ pub summary-spec : {M : Type 1} → statement M
 summary-spec =
     tie.close
     (tie.spec
-    (search needs) (search needs)
+    (λ c κs. search needs) (λ c κs. search needs)
     returns)

@@ -14,5 +14,5 @@ pub totals-image-spec : {M : Type 1} → statement M
 totals-image-spec =
     tie.close
     (tie.spec
-    (search needs)
+    (λ c κs. search needs)
     returns)

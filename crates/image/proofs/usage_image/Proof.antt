@@ -10,7 +10,7 @@ usage-image-spec =
     tie.close
     (tie.spec
     enum-told
-    (search needs) (search needs)
+    (λ c. search needs) (λ c. search needs)
     (λ c. rw (c .enum-told .given .1))
     (λ c. rw (c .before .u .given .1))
     (λ c. rw (c .before .u2 .given .1)))
