@@ -11,5 +11,5 @@ read-spec =
     (tie.spec
     (λ part l₀ at₀ n₀ before₀ i₀ l at n before i. Unit {0})
     (λ part l₀ at₀ n₀ before₀ i₀ l at n before i. length part - i)
-    (search needs) (search needs) (search needs) (search needs) (search needs) (search needs) (search needs) (search needs) (search needs)
-    (search needs) (search needs))
+    (λ c. search needs) (λ c. search needs) (λ c. search needs) (λ c. search needs) (λ c. search needs) (λ c. search needs) (λ c. search needs) (λ c. search needs) (λ c. search needs)
+    (λ c. search needs) (λ c. search needs))

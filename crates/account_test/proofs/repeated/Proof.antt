@@ -11,5 +11,5 @@ repeated-spec =
     (tie.spec
     (λ e n each p₀ code₀ i₀ p code i. Unit {0})
     (λ e n each p₀ code₀ i₀ p code i. n - i)
-    (search needs) (search needs) (search needs) (search needs) (search needs) (search needs) (search needs) (search needs) (search needs)
-    (search needs))
+    (λ c. search needs) (λ c. search needs) (λ c. search needs) (λ c. search needs) (λ c. search needs) (λ c. search needs) (λ c. search needs) (λ c. search needs) (λ c. search needs)
+    (λ c. search needs))

@@ -11,5 +11,5 @@ numbers-spec =
     (tie.spec
     (λ line n₀ at₀ i₀ n at i. Unit {0})
     (λ line n₀ at₀ i₀ n at i. length line - i)
-    (search needs) (search needs) (search needs) (search needs) (search needs) (search needs) (search needs) (search needs) (search needs)
-    (search needs) (search needs) (search needs) (search needs))
+    (λ c. search needs) (λ c. search needs) (λ c. search needs) (λ c. search needs) (λ c. search needs) (λ c. search needs) (λ c. search needs) (λ c. search needs) (λ c. search needs)
+    (λ c. search needs) (λ c. search needs) (λ c. search needs) (λ c. search needs))

@@ -11,4 +11,4 @@ say-codes-spec =
     (tie.spec
     (λ codes i₀ i. Unit {0})
     (λ codes i₀ i. length codes - i)
-    (search needs) (search needs) (search needs) (search needs) (search needs) (search needs) (search needs))
+    (λ c. search needs) (λ c. search needs) (λ c. search needs) (λ c. search needs) (λ c. search needs) (λ c. search needs) (λ c. search needs))

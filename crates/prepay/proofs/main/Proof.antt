@@ -16,9 +16,9 @@ main-spec =
     (tie.spec
     (λ text count out₀ progress₀ out progress. (length out ≡ 8192) × (count ≤ length text))
     (λ text count out₀ progress₀ out progress. unread (take count text) progress)
-    (search needs) (search needs) (search needs) (search needs) (search needs) (search needs) (search needs) (search needs) (search needs)
-    (search needs) (search needs)
+    (λ c. search needs) (λ c. search needs) (λ c. search needs) (λ c. search needs) (λ c. search needs) (λ c. search needs) (λ c. search needs) (λ c. search needs) (λ c. search needs)
+    (λ c. search needs) (λ c. search needs)
     (λ c. let m = c .before .before .piece in sym (length-take-le _ _ (omega (arith, m .ensures .inside, m .kept .1 .1 .0))))
-    (search needs)
+    (λ c. search needs)
     (λ c. reads-on _ _ _ _ _ (omega (arith, c .before .before .before .before .before .before .before .before .loop .inv .0)) (c .before .before .before .piece .ensures) (not-true _ (c .before .before .before .before .before .before .if1 .taken)))
-    (search needs) (search needs))
+    (λ c. search needs) (λ c. search needs))

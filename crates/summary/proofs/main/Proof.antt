@@ -10,7 +10,7 @@ pub main-spec : {M : Type 1} → statement M
 main-spec =
     tie.close
     (tie.spec
-    (search needs) (search needs) (search needs) (search needs) (search needs) (search needs)
+    (λ c. search needs) (λ c. search needs) (λ c. search needs) (λ c. search needs) (λ c. search needs) (λ c. search needs)
     (λ c. within _ _ _ _ _ (c .before .statement .ensures))
     (λ c. sym (length-take-le _ _ (within _ _ _ _ _ (c .before .before .statement .ensures))))
-    (search needs) (search needs))
+    (λ c. search needs) (λ c. search needs))

@@ -11,4 +11,4 @@ find-spec =
     (tie.spec
     (λ text byte i₀ i. i ≤ length text)
     (λ text byte i₀ i. length text - i)
-    (search needs) (search needs) (search needs) (search needs) (search needs) (search needs) (search needs))
+    (λ c. search needs) (λ c. search needs) (λ c. search needs) (λ c. search needs) (λ c. search needs) (λ c. search needs) (λ c. search needs))

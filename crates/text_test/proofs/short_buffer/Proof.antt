@@ -10,6 +10,6 @@ pub short-buffer-spec : {M : Type 1} → statement M
 short-buffer-spec =
     tie.close
     (tie.spec
-    (search needs)
+    (λ c. search needs)
     (λ c. sym (length-replicate {A = ℕ} 655359 0))
-    (search needs) (search needs) (search needs) (search needs) (search needs) (search needs) (search needs))
+    (λ c. search needs) (λ c. search needs) (λ c. search needs) (λ c. search needs) (λ c. search needs) (λ c. search needs) (λ c. search needs))

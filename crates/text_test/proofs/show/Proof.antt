@@ -11,6 +11,6 @@ show-spec =
     tie.close
     (tie.spec
     (λ c. sym (length-replicate {A = ℕ} 655360 0))
-    (search needs)
+    (λ c. search needs)
     (λ c. sym (c .before .before .transcript .kept .1 .0 ∙ length-replicate {A = ℕ} 655360 0))
-    (search needs) (search needs))
+    (λ c. search needs) (λ c. search needs))
