@@ -90,21 +90,21 @@ pub fn open(t: Terms) -> Opened
 pub fn step(a: Account, e: Event) -> Posted
     ensures { λ r. ⌜ r ≡ stepOf a e ⌝ }
 {
-    let t = a.terms;
-    let s = a.totals;
+    let mut b = a;
+    let t = b.terms;
+    let s = b.totals;
     let number = (e.number % MAX_PAYMENTS) as usize;
-    let payment = a.payments[number];
+    let payment = b.payments[number];
     let usage = (e.usage % DAY_COUNT) as usize;
-    let day = a.days[usage];
-    let m = moves::move_of(t, s, payment, day, &a.charges, &a.marks, &a.warned, e);
+    let day = b.days[usage];
+    let m = moves::move_of(t, s, payment, day, &b.charges, &b.marks, &b.warned, e);
     if m.code != 0 {
         return Posted {
-            account: a,
+            account: b,
             code: m.code,
             value: m.value,
         };
     }
-    let mut b = a;
     let totals = m.totals;
     b.totals = totals;
     let paid = m.payment;
