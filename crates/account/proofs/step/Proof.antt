@@ -1,4 +1,4 @@
--- `account::step` meets its contract: the move of what stands, written into the record.
+-- `account::step` meets its contract: the cells before, moved, and written into the record; a refusal as it came in.
 -- Assumes nothing.
 use borrow.Author.Needs.{needs}
 use borrow.Author.Tests.{eq-eqb, ne-eqb}
