@@ -1,4 +1,5 @@
-// The account's step and its readings, by value, at both sides of every limit of document 01.
+// The posting calls and the readings, at both sides of every limit of document 01. `post` is called through `post_by_value`; `post_row` by a
+// thin function that takes the account and the row by value, lends them, and says what was left; its promise is the call's own.
 // The file stdin has the cases, and says how they are written. The file stdout has its lines again, and after a case's colon the answers:
 // these are worked out from the paper by hand, and none is copied from a run.
 // A word is known by its first three letters, as one number: 0x706179 is `pay`.
@@ -10,6 +11,7 @@ use libc::STDIN_FILENO;
 use libc::STDOUT_FILENO;
 use moves::Totals;
 use terms::Terms;
+ghost use Rattle.posting.specs.Posting.{PostsRow};
 
 // A line's words and numbers. The numbers have the names of the fields of an event, which they are after the word `event`.
 struct Line {
@@ -26,6 +28,30 @@ struct Line {
     // the second word, and its number
     way: u32,
     times: u32,
+}
+
+// The account after a row, and the row's own answer.
+struct Done {
+    account: Account,
+    answer: u8,
+}
+
+// ---- rows
+
+fn row_of_five(a: Account, row: [Event; 5], codes: &mut [u8]) -> Done
+    ensures { λ r. ⌜ PostsRow a row (now (codes .entry)) (r .account) (now (codes .exit)) (r .answer) ⌝ }
+{
+    let mut b = a;
+    let answer = posting::post_row(&mut b, &row, codes);
+    Done { account: b, answer }
+}
+
+fn row_of_none(a: Account, row: [Event; 0], codes: &mut [u8]) -> Done
+    ensures { λ r. ⌜ PostsRow a row (now (codes .entry)) (r .account) (now (codes .exit)) (r .answer) ⌝ }
+{
+    let mut b = a;
+    let answer = posting::post_row(&mut b, &row, codes);
+    Done { account: b, answer }
 }
 
 // ---- writing
@@ -64,6 +90,24 @@ fn say_readings(s: Totals) {
     say_sums(s);
     say_signed(readings::settled(s));
     say(readings::estimates(s));
+}
+
+fn say_code(code: u8) {
+    say(code as u64);
+}
+
+fn say_codes(codes: &[u8]) {
+    let mut i = 0;
+    while i < codes.len() {
+        say_code(codes[i]);
+        i += 1;
+    }
+}
+
+// How many payments and events were accepted.
+fn say_counts(s: Totals) {
+    say(s.count as u64);
+    say(s.events as u64);
 }
 
 // ---- totals
@@ -316,13 +360,13 @@ fn common(code: u8, other: u8) -> u8 {
 
 // Posts the event n times, and once at least, as it is or with each number from 0 to n - 1.
 fn repeated(a: Account, e: Event, n: u32, each: bool) -> Posted {
-    let mut p = account::step(a, numbered(e, 0, each));
+    let mut p = posting::post_by_value(a, numbered(e, 0, each));
     let mut code = p.code;
     let mut i: u32 = 1;
     while i < n {
         let event = numbered(e, i, each);
         i += 1;
-        p = account::step(p.account, event);
+        p = posting::post_by_value(p.account, event);
         code = common(code, p.code);
     }
     let after = p.account;
@@ -355,6 +399,46 @@ fn posted(a: Account, l: Line, is_case: bool) -> Account {
     after
 }
 
+// Pay 6000, connect, a credit of nothing, pay 4000, connect again, all on day 0.
+fn five() -> [Event; 5] {
+    let connect = named_event(11, 0, 0, 0, 0);
+    [
+        named_event(1, 0, 6000, 0, 0),
+        connect,
+        named_event(3, 0, 0, 0, 0),
+        named_event(1, 0, 4000, 0, 0),
+        connect,
+    ]
+}
+
+fn row_done(a: Account, events: u32, codes: &mut [u8]) -> Done {
+    if events == 0 {
+        return row_of_none(a, [], codes);
+    }
+    row_of_five(a, five(), codes)
+}
+
+fn row(a: Account, events: u32, codes: &mut [u8]) -> Account {
+    let d = row_done(a, events, codes);
+    let after = d.account;
+    say_code(d.answer);
+    say_codes(codes);
+    say_counts(after.totals);
+    say_readings(after.totals);
+    after
+}
+
+// A row of five events or of none, and a buffer of so many bytes, 8 at most, each of them 7.
+fn row_posted(a: Account, events: u32, bytes: u32) -> Account {
+    let mut codes = [7; 8];
+    if bytes > 8 {
+        return a;
+    }
+    let first = 0;
+    let end = bytes as usize;
+    row(a, events, &mut codes[first..end])
+}
+
 // A fresh account has every total 0, and service off.
 fn opened(l: Line, is_case: bool) -> Account {
     let o = account::open(terms(l));
@@ -376,6 +460,8 @@ fn one(a: Account, part: &[u8], is_case: bool) -> Account {
         0 => a,
         // terms
         0x746572 => opened(l, is_case),
+        // row
+        0x726f77 => row_posted(a, l.sort, l.day),
         // totals
         0x746f74 => {
             say_readings(a.totals);

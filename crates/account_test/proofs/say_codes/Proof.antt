@@ -1,9 +1,9 @@
--- `posting_test::say_codes` is safe and ends. Assumes nothing.
+-- `account_test::say_codes` is safe and ends. Assumes nothing.
 use Prim.Native.Nat.{_-_}
 use lib.ListN.{length}
 use borrow.Author.Needs.{needs}
-use Rattle.posting_test.proofs.say_codes.Statement.{statement}
-use Rattle.posting_test.proofs.say_codes.Tie as tie
+use Rattle.account_test.proofs.say_codes.Statement.{statement}
+use Rattle.account_test.proofs.say_codes.Tie as tie
 
 pub say-codes-spec : {M : Type 1} → statement M
 say-codes-spec =

@@ -6,11 +6,11 @@ use denote.Triple.Table.{entered, cited}
 use Rattle.posting.proofs.post_row.Symbol as g-def
 use Rattle.posting.proofs.post_row.Symbol.{name as #posting·post-row}
 use Rattle.posting.proofs.post_row.Met as g-thm
-use Rattle.posting_test.proofs.LentRow.{PostRow, row-meets}
-use Rattle.posting_test.proofs.row_of_none.Key.{name as #row-of-none}
-use Rattle.posting_test.proofs.row_of_none as f
-use Rattle.posting_test.proofs.row_of_none.Statement as stated
-use Rattle.posting_test.proofs.row_of_none.Code as code
+use Rattle.account_test.proofs.LentRow.{PostRow, row-meets}
+use Rattle.account_test.proofs.row_of_none.Key.{name as #row-of-none}
+use Rattle.account_test.proofs.row_of_none as f
+use Rattle.account_test.proofs.row_of_none.Statement as stated
+use Rattle.account_test.proofs.row_of_none.Code as code
 
 pub row-of-none-spec : {M : Type 1} → stated.statement M
 unfolding code.routine tablesOf

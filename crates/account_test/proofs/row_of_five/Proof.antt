@@ -6,11 +6,11 @@ use denote.Triple.Table.{entered, cited}
 use Rattle.posting.proofs.post_row.Symbol as g-def
 use Rattle.posting.proofs.post_row.Symbol.{name as #posting·post-row}
 use Rattle.posting.proofs.post_row.Met as g-thm
-use Rattle.posting_test.proofs.LentRow.{PostRow, row-meets}
-use Rattle.posting_test.proofs.row_of_five.Key.{name as #row-of-five}
-use Rattle.posting_test.proofs.row_of_five as f
-use Rattle.posting_test.proofs.row_of_five.Statement as stated
-use Rattle.posting_test.proofs.row_of_five.Code as code
+use Rattle.account_test.proofs.LentRow.{PostRow, row-meets}
+use Rattle.account_test.proofs.row_of_five.Key.{name as #row-of-five}
+use Rattle.account_test.proofs.row_of_five as f
+use Rattle.account_test.proofs.row_of_five.Statement as stated
+use Rattle.account_test.proofs.row_of_five.Code as code
 
 pub row-of-five-spec : {M : Type 1} → stated.statement M
 unfolding code.routine tablesOf

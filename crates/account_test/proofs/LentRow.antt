@@ -54,9 +54,9 @@ use Rattle.account.proofs.Account.Laws as T′
 use Rattle.posting.specs.Posting.{PostsRow}
 use Rattle.posting.proofs.post_row as g
 use Rattle.posting.proofs.post_row.Symbol.{name as #posting·post-row}
-use Rattle.posting_test.specs.declared.Done.{Done}
-use Rattle.posting_test.proofs.Done as D
-use Rattle.posting_test.proofs.Done.Laws as D′
+use Rattle.account_test.specs.declared.Done.{Done}
+use Rattle.account_test.proofs.Done as D
+use Rattle.account_test.proofs.Done.Laws as D′
 use Rattle.posting.proofs.StepCall.{valT}
 use Rattle.posting.proofs.Lent.{typedT, account-in, account-out}
 
