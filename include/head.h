@@ -3,7 +3,7 @@
  * Level 1: an event text to its transcript, and to its month figures; bytes in, bytes out.
  * Level 2: one account, kept by the caller as a `prepay_account` in its own memory, opened, posted to and read.
  *
- * Memory. The library owns none, keeps no pointer after a call returns, and calls nothing but memcpy, memmove and memset.
+ * Memory. The library owns none, keeps no pointer after a call returns, and calls nothing but memcpy and memset.
  * Every pointer must point to memory of the stated size and alignment, readable, and writable where it is not const, for the time of the
  * call; the regions of one call must not overlap. A null pointer is allowed nowhere, not even with a count of 0.
  *

@@ -85,8 +85,8 @@ pub fn open(t: Terms) -> Opened
     }
 }
 
-// One event: the account after it and the answer. A refusal hands the account back as it came in, at once.
-// The cells that the event may change are read, moved, and written back.
+// One event: the account after it and the answer. The cells that the event may change are read and moved. A refusal writes none of them: the
+// account is handed back as it came in; else they are written back.
 pub fn step(a: Account, e: Event) -> Posted
     ensures { λ r. ⌜ r ≡ stepOf a e ⌝ }
 {
@@ -98,22 +98,17 @@ pub fn step(a: Account, e: Event) -> Posted
     let usage = (e.usage % DAY_COUNT) as usize;
     let day = b.days[usage];
     let m = moves::move_of(t, s, payment, day, &b.charges, &b.marks, &b.warned, e);
-    if m.code != 0 {
-        return Posted {
-            account: b,
-            code: m.code,
-            value: m.value,
-        };
+    if m.code == 0 {
+        let totals = m.totals;
+        b.totals = totals;
+        let paid = m.payment;
+        b.payments[m.number as usize] = paid;
+        let used = m.day;
+        b.days[usage] = used;
+        b.charges[m.place as usize] = m.sum;
+        b.warned[(e.day % DAY_COUNT) as usize] = m.warned;
+        marks::set(&mut b.marks, m.kind, m.from, m.to);
     }
-    let totals = m.totals;
-    b.totals = totals;
-    let paid = m.payment;
-    b.payments[m.number as usize] = paid;
-    let used = m.day;
-    b.days[usage] = used;
-    b.charges[m.place as usize] = m.sum;
-    b.warned[(e.day % DAY_COUNT) as usize] = m.warned;
-    marks::set(&mut b.marks, m.kind, m.from, m.to);
     Posted {
         account: b,
         code: m.code,

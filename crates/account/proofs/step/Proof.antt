@@ -8,11 +8,11 @@ use Rattle.account.proofs.step.Tie as tie
 
 returns : tie.Need-returns
 unfolding stepOf
-returns c = rw (← c .before .before .move-of .ensures .move, ne-eqb _ _ (c .if1 .taken))
+returns c = rw (c .set .ensures, ← c .before .before .before .before .before .before .before .before .before .before .move-of .ensures .move, eq-eqb _ _ (c .before .before .before .before .before .before .before .before .if1 .taken))
 
 returns-2 : tie.Need-returns-2
 unfolding stepOf
-returns-2 c = rw (c .set .ensures, ← c .before .before .before .before .before .before .before .before .before .before .move-of .ensures .move, eq-eqb _ _ (c .before .before .before .before .before .before .before .before .if1 .left))
+returns-2 c = rw (← c .before .before .move-of .ensures .move, ne-eqb _ _ (c .if1 .left))
 
 pub step-spec : {M : Type 1} → statement M
 step-spec =
@@ -20,10 +20,10 @@ step-spec =
     (tie.spec
     (λ c. search needs) (λ c. search needs) (λ c. search needs) (λ c. search needs) (λ c. search needs) (λ c. search needs)
     (λ c κs. search needs)
-    returns
     (λ c. search needs) (λ c. search needs)
     (λ c. c .before .before .before .before .before .move-of .ensures .number)
     (λ c. search needs) (λ c. search needs) (λ c. search needs) (λ c. search needs)
     (λ c. c .before .before .before .before .before .before .before .move-of .ensures .place)
     (λ c. search needs) (λ c. search needs) (λ c κs. search needs)
+    returns
     returns-2)
