@@ -30,30 +30,6 @@ struct Line {
     times: u32,
 }
 
-// The account after a row, and the row's own answer.
-struct Done {
-    account: Account,
-    answer: u8,
-}
-
-// ---- rows
-
-fn row_of_five(a: Account, row: [Event; 5], codes: &mut [u8]) -> Done
-    ensures { λ r. ⌜ PostsRow a row (now (codes .entry)) (r .account) (now (codes .exit)) (r .answer) ⌝ }
-{
-    let mut b = a;
-    let answer = posting::post_row(&mut b, &row, codes);
-    Done { account: b, answer }
-}
-
-fn row_of_none(a: Account, row: [Event; 0], codes: &mut [u8]) -> Done
-    ensures { λ r. ⌜ PostsRow a row (now (codes .entry)) (r .account) (now (codes .exit)) (r .answer) ⌝ }
-{
-    let mut b = a;
-    let answer = posting::post_row(&mut b, &row, codes);
-    Done { account: b, answer }
-}
-
 // ---- writing
 
 fn say(n: u64) {
@@ -399,6 +375,42 @@ fn posted(a: Account, l: Line, is_case: bool) -> Account {
     after
 }
 
+// A fresh account has every total 0, and service off.
+fn opened(l: Line, is_case: bool) -> Account {
+    let o = account::open(terms(l));
+    let a = o.account;
+    if !is_case {
+        return a;
+    }
+    say(o.code as u64);
+    compare(a.totals, none());
+    a
+}
+
+// ---- rows
+
+// The account after a row, and the row's own answer.
+struct Done {
+    account: Account,
+    answer: u8,
+}
+
+fn row_of_five(a: Account, row: [Event; 5], codes: &mut [u8]) -> Done
+    ensures { λ r. ⌜ PostsRow a row (now (codes .entry)) (r .account) (now (codes .exit)) (r .answer) ⌝ }
+{
+    let mut b = a;
+    let answer = posting::post_row(&mut b, &row, codes);
+    Done { account: b, answer }
+}
+
+fn row_of_none(a: Account, row: [Event; 0], codes: &mut [u8]) -> Done
+    ensures { λ r. ⌜ PostsRow a row (now (codes .entry)) (r .account) (now (codes .exit)) (r .answer) ⌝ }
+{
+    let mut b = a;
+    let answer = posting::post_row(&mut b, &row, codes);
+    Done { account: b, answer }
+}
+
 // Pay 6000, connect, a credit of nothing, pay 4000, connect again, all on day 0.
 fn five() -> [Event; 5] {
     let connect = named_event(11, 0, 0, 0, 0);
@@ -439,17 +451,7 @@ fn row_posted(a: Account, events: u32, bytes: u32) -> Account {
     row(a, events, &mut codes[first..end])
 }
 
-// A fresh account has every total 0, and service off.
-fn opened(l: Line, is_case: bool) -> Account {
-    let o = account::open(terms(l));
-    let a = o.account;
-    if !is_case {
-        return a;
-    }
-    say(o.code as u64);
-    compare(a.totals, none());
-    a
-}
+// ---- the text
 
 // A part of the text: a line, or a case up to its colon. A remark and a heading have no word.
 fn one(a: Account, part: &[u8], is_case: bool) -> Account {
