@@ -1,5 +1,7 @@
 // The account record and its step by value.
 // It uses the calendar, the terms, the marks, the moves and the ledger's event. Its promises cite specs/Step.antt.
+#![tactic(auto)]
+
 ghost use Rattle.std.specs.Prelude.{◌≡◌};
 ghost use Rattle.account.specs.Step.{step_of, IsOpened};
 ghost use Rattle.account.specs.Record.{fresh};
@@ -15,7 +17,7 @@ pub type UsageDays = [Day; DAY_COUNT as usize];
 pub type Payments = [Payment; MAX_PAYMENTS as usize];
 
 // One account: its terms, its totals, and what is kept by usage day, day, payment, and month with charge kind.
-#[derive(Drop)]
+#[derive(Clone, Copy)]
 pub struct Account {
     pub terms: Terms,
     pub totals: Totals,
@@ -29,7 +31,7 @@ pub struct Account {
 }
 
 // The account after an event, and the answer to it.
-#[derive(Drop)]
+#[derive(Clone, Copy)]
 pub struct Posted {
     pub account: Account,
     pub code: u8,
@@ -37,7 +39,7 @@ pub struct Posted {
 }
 
 // The record, and 0, or 1 where the terms are outside their limits.
-#[derive(Drop)]
+#[derive(Clone, Copy)]
 pub struct Opened {
     pub account: Account,
     pub code: u8,

@@ -3,6 +3,8 @@
 // The file stdin has the cases, and says how they are written. The file stdout has its lines again, and after a case's colon the answers:
 // these are worked out from the paper by hand, and none is copied from a run.
 // A word is known by its first three letters, as one number: 0x706179 is `pay`.
+#![tactic(auto)]
+
 ghost use Rattle.posting.specs.Posting.{PostsRow};
 
 use account::{Account, Posted};
@@ -13,7 +15,7 @@ use moves::Totals;
 use terms::Terms;
 
 // A line's words and numbers. The numbers have the names of the fields of an event, which they are after the word `event`.
-#[derive(Drop)]
+#[derive(Clone, Copy)]
 struct Line {
     word: u32,
     sort: u32,
@@ -390,7 +392,7 @@ fn opened(l: Line, is_case: bool) -> Account {
 // ---- rows
 
 // The account after a row, and the row's own answer.
-#[derive(Drop)]
+#[derive(Clone, Copy)]
 struct Done {
     account: Account,
     answer: u8,

@@ -1,5 +1,7 @@
 // The Gregorian calendar of an account: dates, weekdays and months of its days 0 to 399.
 // It uses nothing else. Its promises cite specs/Calendar.antt.
+#![tactic(auto)]
+
 ghost use Rattle.std.specs.Prelude.{◌≡◌, true, ◌+◌, ◌-◌, ◌*◌, ◌≤◌, ◌<◌};
 ghost use Rattle.calendar.specs.Calendar.{leap_year, month_length, date_exists, first_year, end_year, opens, is_in_reach};
 ghost use Rattle.calendar.specs.Calendar.{total, length_after, days_after, month_from};
@@ -7,7 +9,7 @@ ghost use Rattle.calendar.specs.Calendar.{next_answer, weekday_answer, month_cou
 ghost use Rattle.calendar.specs.Work.{days_before, year_length, year_taken, InYear, month_start};
 
 #[repr(C)]
-#[derive(Drop)]
+#[derive(Clone, Copy)]
 pub struct Date {
     pub year: u32,
     pub month: u32,
@@ -39,21 +41,21 @@ const NO_WEEKDAY: u32 = SUNDAY + 1;
 pub const WARNING_DAYS: u32 = 7;
 
 // The date of a day, or that the account has no such day.
-#[derive(Drop)]
+#[derive(Clone, Copy)]
 pub enum Dated {
     On(Date),
     Outside,
 }
 
 // The number of a day, or that the date is none of days 0 to 399.
-#[derive(Drop)]
+#[derive(Clone, Copy)]
 pub enum Numbered {
     Day(u32),
     Outside,
 }
 
 // Days `from` to the day before `to`.
-#[derive(Drop)]
+#[derive(Clone, Copy)]
 pub struct Days {
     pub from: u32,
     pub to: u32,
@@ -219,7 +221,7 @@ fn year_length(year: u32) -> u32
 }
 
 // A day as a year and the days since its 1 January.
-#[derive(Drop)]
+#[derive(Clone, Copy)]
 struct Place {
     year: u32,
     left: u32,

@@ -1,5 +1,7 @@
 // The calendar's answers to the questions of the file stdin, which says how they are written.
 // The file stdout has the answers: to `all` those of Python's datetime (make_vectors.py), to the others worked out by hand.
+#![tactic(auto)]
+
 use calendar::{Date, Dated, Numbered};
 use libc::{STDIN_FILENO, STDOUT_FILENO};
 

@@ -1,6 +1,8 @@
 // Demand 3, one theorem: over every list of posting calls, by the promises of the calls that run.
 // It uses the promises of `account::open`, of the posting and of the reading calls, and the ledger's definitions. proofs/Contracts.antt has
 // the same over the contracts of these calls as the toolchain compiled them.
+#![tactic(auto)]
+
 ghost use Rattle.terms.specs.declared.Terms.{Terms};
 ghost use Rattle.demand.specs.Demand3.{Demand3};
 

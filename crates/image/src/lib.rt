@@ -1,6 +1,8 @@
 // The account record as numbers alone, for a head in C that keeps it in its own memory, and the calls over it by value.
 // It uses the calendar, the terms, the ledger's event, the moves, the account, the readings and the month's figures. Its promises cite
 // specs/Image.antt.
+#![tactic(auto)]
+
 ghost use Rattle.std.specs.Prelude.{◌≡◌, cond, map};
 ghost use Rattle.image.specs.Image.{usage_image, usage_of, is_day_image, day_image, day_of, is_payment_image, payment_image, payment_of};
 ghost use Rattle.terms.specs.Terms.{zero_terms};
@@ -16,7 +18,7 @@ use terms::Terms;
 
 // A usage day: state 0 blank, 1 estimated, 2 metered. A blank day has 0 Wh and costs 0.
 #[repr(C)]
-#[derive(Drop)]
+#[derive(Clone, Copy)]
 pub struct DayImage {
     pub state: u32,
     pub wh: u32,
@@ -24,7 +26,7 @@ pub struct DayImage {
 }
 
 #[repr(C)]
-#[derive(Drop)]
+#[derive(Clone, Copy)]
 pub struct PaymentImage {
     pub day: u32,
     pub amount: u32,
@@ -34,7 +36,7 @@ pub struct PaymentImage {
 }
 
 #[repr(C)]
-#[derive(Drop)]
+#[derive(Clone, Copy)]
 pub struct TotalsImage {
     pub credit: u64,
     pub debit: u64,
@@ -57,7 +59,7 @@ pub type PaymentImages = [PaymentImage; PAYMENTS];
 
 // The account record, field by field.
 #[repr(C)]
-#[derive(Drop)]
+#[derive(Clone, Copy)]
 pub struct Image {
     pub totals: TotalsImage,
     pub terms: Terms,
@@ -71,7 +73,7 @@ pub struct Image {
 }
 
 // The image after an event, and the answer to it.
-#[derive(Drop)]
+#[derive(Clone, Copy)]
 pub struct ImagePosted {
     pub image: Image,
     pub code: u8,
@@ -79,7 +81,7 @@ pub struct ImagePosted {
 }
 
 // The image, and 0, or 1 where the terms are outside their limits.
-#[derive(Drop)]
+#[derive(Clone, Copy)]
 pub struct ImageOpened {
     pub image: Image,
     pub code: u8,
@@ -87,7 +89,7 @@ pub struct ImageOpened {
 
 // The five readings, in cents; service is 0 or 1.
 #[repr(C)]
-#[derive(Drop)]
+#[derive(Clone, Copy)]
 pub struct Reading {
     pub balance: i64,
     pub settled: i64,

@@ -1,11 +1,13 @@
 // The ledger of demand 3: its definitions, from document 01 alone, and the figures that document 01 marks (P).
 // It uses the calendar's, the tariff's and the terms' definitions, and nothing of the head.
+#![tactic(auto)]
+
 ghost use Rattle.std.specs.Prelude.{◌≡◌, map};
 ghost use Rattle.ledger.specs.Figures.{Figure, shown, figures};
 
 // An event as it is posted. Only the fields that its sort names are judged (specs/Event.antt).
 #[repr(C)]
-#[derive(Drop)]
+#[derive(Clone, Copy)]
 pub struct Event {
     pub sort: u32,
     pub day: u32,
@@ -35,7 +37,7 @@ pub const REQUIRED_DEBT: u64 = 5000;
 
 // What a posted event is answered.
 #[repr(C)]
-#[derive(Drop)]
+#[derive(Clone, Copy)]
 pub struct Answer {
     pub code: u8,
     pub value: u64,
@@ -43,7 +45,7 @@ pub struct Answer {
 
 // A count of payments and the sum of their amounts, in cents.
 #[repr(C)]
-#[derive(Drop)]
+#[derive(Clone, Copy)]
 pub struct Counted {
     pub count: u32,
     pub sum: u64,
@@ -51,7 +53,7 @@ pub struct Counted {
 
 // Energy used, in Wh, and its cost, in cents.
 #[repr(C)]
-#[derive(Drop)]
+#[derive(Clone, Copy)]
 pub struct Used {
     pub wh: u64,
     pub cost: u64,
@@ -63,7 +65,7 @@ pub type KindSums = [u64; CHARGE_KIND_COUNT as usize];
 // A month's figures (specs/Months.antt). The code is 3 for a month that holds none of the account's days, and 1 where there is no account;
 // every figure is 0 then.
 #[repr(C)]
-#[derive(Drop)]
+#[derive(Clone, Copy)]
 pub struct Summary {
     pub code: u8,
     pub kept: Counted,

@@ -1,5 +1,7 @@
 // The limits of an event's fields (code 3).
 // It uses the calendar, and the ledger's event and limits. Its promise cites the ledger's specs/Event.antt.
+#![tactic(auto)]
+
 ghost use Rattle.std.specs.Prelude.{◌≡◌, cond, ◌&&◌, leb};
 ghost use Rattle.calendar.specs.Calendar.{final_day};
 ghost use Rattle.terms.specs.Terms.{within};

@@ -1,5 +1,7 @@
 // One byte of marks a day, and one of warnings: setting, testing and searching them.
 // It uses the calendar. Its promises cite specs/Marks.antt.
+#![tactic(auto)]
+
 ghost use Rattle.std.specs.Prelude.{◌≡◌, ◌+◌, ◌-◌, ◌≤◌, ◌<◌};
 ghost use Rattle.calendar.specs.Calendar.{day_count};
 ghost use Rattle.marks.specs.Marks.{mark_bit, mark_range, day_before, business_left, marked, barring_on, latest_warning, weather_near};
@@ -8,7 +10,7 @@ ghost use Rattle.marks.specs.Marks.{mark_bit, mark_range, day_before, business_l
 pub type DayBytes = [u8; calendar::DAY_COUNT as usize];
 
 // The day of a warning, or that there is none.
-#[derive(Drop)]
+#[derive(Clone, Copy)]
 pub enum Found {
     At(u32),
     Missing,

@@ -1,5 +1,7 @@
 // A month's figures off the account record.
 // It uses the calendar, the ledger, the moves and the account. The promise says the figures twice: off the record, and in the ledger's terms.
+#![tactic(auto)]
+
 ghost use Rattle.std.specs.Prelude.{◌≡◌, ℕ, ◌+◌, ◌-◌, ◌*◌, ◌≤◌, ◌<◌};
 ghost use Rattle.calendar.specs.Calendar.{final_day, day_count, month_count};
 ghost use Rattle.ledger.specs.Rules.{max_payments};
@@ -12,14 +14,14 @@ use ledger::{CHARGE_KIND_COUNT, Counted, KindSums, Summary, Used};
 use moves::{Charges, Day, Payment, Usage};
 
 // The payments kept and those reversed.
-#[derive(Drop)]
+#[derive(Clone, Copy)]
 struct Paid {
     kept: Counted,
     reversed: Counted,
 }
 
 // The usage of metered days and that of estimated ones.
-#[derive(Drop)]
+#[derive(Clone, Copy)]
 struct Usages {
     metered: Used,
     estimated: Used,

@@ -1,5 +1,7 @@
 // What one event does to the totals and to the cells of the record that it may change, by its sort, and what it is answered.
 // It uses the calendar, the tariff, the marks, the terms, the limits and the ledger's event. Its promises cite specs/Moves.antt.
+#![tactic(auto)]
+
 ghost use Rattle.std.specs.Prelude.{◌≡◌, ◌<◌};
 ghost use Rattle.ledger.specs.Rules.{max_events};
 ghost use Rattle.moves.specs.Moves.{is_account, tallied, accepting, refusing, early_code, by_sort, IsMove};
@@ -16,19 +18,19 @@ mod payments;
 mod service;
 
 // A usage day's state, with its Wh and cost.
-#[derive(Drop)]
+#[derive(Clone, Copy)]
 pub enum Usage {
     Blank,
     Estimated { wh: u32, cost: u32 },
     Metered { wh: u32, cost: u32 },
 }
 
-#[derive(Drop)]
+#[derive(Clone, Copy)]
 pub struct Day {
     pub usage: Usage,
 }
 
-#[derive(Drop)]
+#[derive(Clone, Copy)]
 pub struct Payment {
     pub day: u32,
     pub amount: u32,
@@ -38,7 +40,7 @@ pub struct Payment {
 }
 
 // Credits and debits are separate growing totals: the balance B is credit less debit.
-#[derive(Drop)]
+#[derive(Clone, Copy)]
 pub struct Totals {
     pub credit: u64,
     pub debit: u64,
@@ -56,7 +58,7 @@ pub struct Totals {
 }
 
 // The answer, the totals, and the one cell of each array that the event may change; before the event, as they are.
-#[derive(Drop)]
+#[derive(Clone, Copy)]
 pub struct Move {
     pub code: u8,
     pub value: u64,

@@ -1,5 +1,7 @@
 // The posting calls over a lent account: one event, and a row of events.
 // It uses the account's step and the ledger's event. Its promises cite specs/Posting.antt: by the step, and in the ledger's terms.
+#![tactic(auto)]
+
 ghost use Rattle.posting.specs.Posting.{answer_of, Posts, PostsRow};
 
 use account::{Account, Posted, step};

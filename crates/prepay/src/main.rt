@@ -1,6 +1,8 @@
 // `prepay`: an event text on standard input, its transcript on standard output.
 // It uses the event text's limit, the transcript, and the kit's reading and writing.
 // A text that is too long fills the buffer, which is one byte longer.
+#![tactic(auto)]
+
 use libc::{STDIN_FILENO, STDOUT_FILENO};
 
 fn main() {

@@ -1,4 +1,6 @@
 // Numbers and words put as bytes into a lent buffer. It uses nothing else. Its promises cite specs/Printing.antt.
+#![tactic(auto)]
+
 ghost use Rattle.std.specs.Prelude.{◌≡◌, ◌++◌, ◌+◌, ◌≤◌, leb, length, nat_abs};
 ghost use Rattle.printing.specs.Printing.{decimal, DigitsSuffice, signed, over, Puts};
 

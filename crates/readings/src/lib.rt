@@ -1,5 +1,7 @@
 // The reading calls: balance, unpaid plan, service, settled amount, cost of the standing estimates.
 // It uses the moves' totals. Each promise says the answer twice: off the totals, and in the ledger's terms.
+#![tactic(auto)]
+
 ghost use Rattle.std.specs.Prelude.{◌≡◌, ◌*◌, ◌≤◌, pos, ◌-ℤ◌};
 ghost use Rattle.moves.specs.Moves.{max_total};
 ghost use Rattle.readings.specs.Readings.{IsBalance, IsPlan, IsService, IsSettled, IsEstimates};

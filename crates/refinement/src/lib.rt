@@ -1,5 +1,7 @@
 // The refinement: the account record represents the ledger, for one event and for lists of them.
 // It uses the account's and the ledger's definitions.
+#![tactic(auto)]
+
 ghost use Rattle.std.specs.Prelude.{◌≡◌, true};
 ghost use Rattle.terms.specs.Terms.{valid_terms};
 ghost use Rattle.terms.specs.declared.Terms.{Terms};

@@ -1,6 +1,8 @@
 // The lines of an event text: a line's key and its value, and a value as a number, a date or a word.
 // It uses the calendar's date, and in its definitions the terms' `within`. Its promises cite specs/Scanner.antt, and inside the crate
 // specs/Places.antt.
+#![tactic(auto)]
+
 ghost use Rattle.std.specs.Prelude.{◌≡◌, ◌+◌, ◌≤◌, length};
 ghost use Rattle.scanner.specs.Scanner.{same as sameBytes, ValueAt, NumberAt, DateAt};
 ghost use Rattle.scanner.specs.Places.{digit_of, two_digits_at, date_of, StartAt, FeedAt, NumberFrom};
@@ -8,14 +10,14 @@ ghost use Rattle.scanner.specs.Places.{digit_of, two_digits_at, date_of, StartAt
 use calendar::Date;
 
 // A place in the text, or that there is none.
-#[derive(Drop)]
+#[derive(Clone, Copy)]
 enum Position {
     At(usize),
     Missing,
 }
 
 // The value of the line at a place: its bytes are those from `from` on, its line feed stands at `end`, and `next` is what follows.
-#[derive(Drop)]
+#[derive(Clone, Copy)]
 pub enum ValueRead {
     Got {
         from: usize,
@@ -25,13 +27,13 @@ pub enum ValueRead {
     Broken,
 }
 
-#[derive(Drop)]
+#[derive(Clone, Copy)]
 pub enum NumberRead {
     Got { value: u32, next: usize },
     Broken,
 }
 
-#[derive(Drop)]
+#[derive(Clone, Copy)]
 pub enum DateRead {
     Got { date: Date, next: usize },
     Broken,

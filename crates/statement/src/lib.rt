@@ -1,6 +1,8 @@
 // What `summary` prints for a text: its month figures, put whole into a lent buffer.
 // It uses the calendar, the terms, the account, the event text, the posting call, the month's figures and the printing. Its promise cites
 // specs/Statement.antt.
+#![tactic(auto)]
+
 ghost use Rattle.std.specs.Prelude.{◌≡◌, cond, ℕ, ◌+◌, ◌*◌, ◌≤◌, length, drop};
 ghost use Rattle.scanner.specs.Scanner.{got};
 ghost use Rattle.printing.specs.Printing.{number_room, Wrote};

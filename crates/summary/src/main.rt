@@ -1,6 +1,8 @@
 // `summary`: an event text on standard input, a line for each month of the account on standard output.
 // It uses the event text's limit, the statement, and the kit's reading and writing.
 // A text that is too long fills the buffer, which is one byte longer.
+#![tactic(auto)]
+
 use libc::{STDIN_FILENO, STDOUT_FILENO};
 
 fn main() {

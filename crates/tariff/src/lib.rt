@@ -1,4 +1,6 @@
 // The cost of a usage day. It uses nothing else. Its promise cites specs/Tariff.antt.
+#![tactic(auto)]
+
 ghost use Rattle.std.specs.Prelude.{◌≡◌};
 ghost use Rattle.tariff.specs.Tariff.{cost_of};
 

@@ -1,11 +1,13 @@
 // The opening terms of an account and their limits. It uses the calendar. Its promise cites specs/Terms.antt.
+#![tactic(auto)]
+
 ghost use Rattle.std.specs.Prelude.{◌≡◌};
 ghost use Rattle.terms.specs.Terms.{terms_code};
 
 use calendar::Date;
 
 #[repr(C)]
-#[derive(Drop)]
+#[derive(Clone, Copy)]
 pub struct Terms {
     pub opened: Date,
     // hundredths of a cent per kWh

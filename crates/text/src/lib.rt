@@ -1,6 +1,8 @@
 // Event text: the terms and one event, read from its lines.
 // It uses the scanner of the lines, the ledger's event, the terms and the calendar's date. Its promises cite specs/Text.antt, and inside the
 // crate specs/Places.antt.
+#![tactic(auto)]
+
 ghost use Rattle.std.specs.Prelude.{◌≡◌, [], ◌∷◌, ◌⊎◌, ◌≤◌, length};
 ghost use Rattle.text.specs.Text.{TermsAt, EventAt, field_line, sorts, sort_in, fields_in, stored};
 ghost use Rattle.text.specs.Places.{found_or, SortAt, FieldsAt, NextAt};
@@ -13,21 +15,21 @@ use terms::Terms;
 pub const MAX_TEXT: usize = 65536;
 
 // The terms at the start of a text and where its events start, or that they break the form.
-#[derive(Drop)]
+#[derive(Clone, Copy)]
 pub enum TermsRead {
     Got { terms: Terms, next: usize },
     Broken,
 }
 
 // The event that starts at a place and where the next one starts, or that it breaks the form.
-#[derive(Drop)]
+#[derive(Clone, Copy)]
 pub enum EventRead {
     Got { event: Event, next: usize },
     Broken,
 }
 
 // The fields of the events.
-#[derive(Drop)]
+#[derive(Clone, Copy)]
 enum Field {
     Amount,
     Number,

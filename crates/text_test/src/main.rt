@@ -3,6 +3,8 @@
 // 4,675 times.
 // A name has `P` where the usual terms and a payment of 6000 on day 0 stand first in the text, and `T` where the terms do.
 // The file stdout is worked out from document 01 by hand; none of its lines is copied from a run.
+#![tactic(auto)]
+
 ghost use Rattle.std.specs.Prelude.{◌≤◌, length};
 
 use libc::{STDIN_FILENO, STDOUT_FILENO};

@@ -1,6 +1,8 @@
 // What `prepay` prints for a text: whole into a lent buffer, or in pieces through one of any size.
 // It uses the calendar, the terms, the ledger, the event text, the marks, the moves, the account, the readings and the printing. Its promises
 // cite specs/Transcript.antt, specs/Counts.antt and specs/Pieces.antt, which use specs/Events.antt and specs/Work.antt.
+#![tactic(auto)]
+
 ghost use Rattle.std.specs.Prelude.{◌≡◌, false, ◌+◌, ◌≤◌, length};
 ghost use Rattle.printing.specs.Printing.{Wrote};
 ghost use Rattle.transcript.specs.Transcript.{WholeTranscript};
@@ -23,7 +25,7 @@ pub const PIECE_ROOM: usize = 174;
 pub const TRANSCRIPT_ROOM: usize = 655360;
 
 // How far a text is printed.
-#[derive(Drop)]
+#[derive(Clone, Copy)]
 pub struct Progress {
     // the account after the events printed
     pub account: Account,
