@@ -1,0 +1,46 @@
+use mathlib.Core.Path.{◌≡◌, ◌∙◌, sym, ap}
+use mathlib.Core.Bool.{true, false≢true}
+use Prim.Native.Nat.{ℕ, ◌+◌, ◌-◌}
+use borrow.Author.Tests.{not-true, not-false, le-leb}
+use native.Mathlib.Omega.{arith}
+use borrow.Author.Rules.{rules}
+use Rattle.calendar.specs.Calendar.{opens, is_in_reach, is_day, date_on, days_after}
+use Rattle.calendar.proofs.Laws.{opens-real, opens-reached, reached-real, day-limits, day-reached, day-real, same-day}
+use Rattle.calendar.proofs.day_of.Goals as goal
+
+-- where the date is day k, k is the difference of their days
+difference : (c : goal.After-days_after-at) (k : ℕ) → is_day c.args.opened k ≡ true → date_on c.args.opened k ≡ c.args.d → c.days_after-at.result ≡ c.days_after-first.result + k
+difference c k e d =
+    let o = c.args.opened in
+    let l = day-real o (day-limits o k e).opened.real k in
+    omega (arith, c.days_after-at.ensures, c.days_after-first.ensures, l.later, ap days_after d)
+
+pub returns-then-not-can_open : goal.returns-then-not-can_open
+returns-then-not-can_open c = λ k e _. false≢true (sym (not-true _ c.if-not-can_open.true-raw) ∙ (c.can_open.ensures ∙ (day-limits _ k e).open_is))
+
+pub returns-then-not-in_reach : goal.returns-then-not-in_reach
+returns-then-not-in_reach c = λ k e d. false≢true (sym (not-true _ c.if-not-in_reach.true-raw) ∙ (c.in_reach.ensures ∙ (ap is_in_reach (sym d) ∙ day-reached _ k e)))
+
+pub days_after-first-requires : goal.days_after-first-requires
+days_after-first-requires c = opens-reached _ (sym c.can_open.ensures ∙ not-false _ c.if-not-can_open.false-raw)
+
+pub days_after-at-requires : goal.days_after-at-requires
+days_after-at-requires c = (sym c.in_reach.ensures ∙ not-false _ c.if-not-in_reach.false-raw)
+
+pub returns-then-at-first : goal.returns-then-at-first
+returns-then-at-first c = λ k e d. omega (arith, difference c.before k e d)
+
+pub returns-then-at-first-gt-FINAL_DAY : goal.returns-then-at-first-gt-FINAL_DAY
+returns-then-at-first-gt-FINAL_DAY c = λ k e d. omega (arith, difference c.before.before k e d, (day-limits _ k e).limit)
+
+pub returns : goal.returns
+returns c =
+    let b = c.before.before in
+    let o = b.args.opened in
+    let d = b.args.d in
+    let k = b.days_after-at.result - b.days_after-first.result in
+    let t = (sym c.can_open.ensures ∙ not-false _ c.if-not-can_open.false-raw) in
+    let day = day-real o (opens-real o t).real k in (
+      simp (t, le-leb k 399 c.if-at-first-gt-FINAL_DAY.false),
+      same-day (date_on o k) d day.real (reached-real d (sym c.in_reach.ensures ∙ not-false _ c.if-not-in_reach.false-raw)).real (day.later ∙ omega (arith, b.days_after-at.ensures, b.days_after-first.ensures)),
+    )

@@ -1,0 +1,11 @@
+use mathlib.Core.Path.{ap, ◌∙◌}
+use borrow.Author.Rules.{rules}
+use Rattle.account.specs.declared.Opened.{Opened}
+use Rattle.image.specs.Image.{image_of, opened_of}
+use Rattle.image.proofs.open.Goals as goal
+
+pub returns : goal.returns
+unfolding opened_of
+returns c =
+    let o = c.«open».ensures in
+    λ k. record { image = (c.image_of.ensures ∙ ap (λ (x : Opened). image_of x.account) o) k; code = (o k).code }

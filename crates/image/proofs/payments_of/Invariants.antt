@@ -1,0 +1,14 @@
+-- `image::payments_of` meets its contract. The loop's invariant: the payments passed are mapped.
+-- Assumes nothing.
+use Prim.Native.Nat.{◌-◌}
+use Rattle.account.specs.Record.{no_payment}
+use borrow.Author.Rules.{rules}
+use Rattle.image.specs.Image.{payment_of}
+use Rattle.image.proofs.Lists.{Mapped, begins, turn, ends}
+use Rattle.image.proofs.payments_of.Given as goal
+
+abbrev pub invariant-loop-i : goal.invariant-loop-i
+invariant-loop-i l = Mapped payment_of 128 l.l l.payments l.i
+
+abbrev pub decreases-loop-i : goal.decreases-loop-i
+decreases-loop-i l = 128 - l.i

@@ -1,0 +1,43 @@
+-- `months::used_in` meets its contract. The loop's invariant: what the days passed come to; those before `from` come to nothing.
+-- Assumes nothing.
+use Prim.Native.Nat.{◌≤◌, ◌-◌}
+use mathlib.Core.Path.{◌≡◌, ◌∙◌}
+use native.Mathlib.Omega.{arith}
+use borrow.Author.Rules.{rules}
+use Rattle.months.specs.Work.{span, used_by, UsedTo}
+use Rattle.months.proofs.Turns.{used-none, used-again, used_all}
+pub used-in-spec : {M : Type 1} → statement M
+used-in-spec =
+    tie.close
+    (tie.spec
+    invariant-loop
+    decreases-loop
+    loop-holds
+    (λ c. search rules)
+    (λ c. search rules)
+    (λ c. search rules)
+    (λ c κs. search rules)
+    (λ c. search rules)
+    (λ c. search rules)
+    loop-again
+    returns)
+use Rattle.months.proofs.used_in.Goals as goal
+
+pub loop-d-init : goal.loop-d-init
+loop-d-init c = (search rules, search rules, used-none _ _ _, search rules)
+
+pub loop-d-preserved : goal.loop-d-preserved
+loop-d-preserved c =
+    let l = c.loop-d in (
+      search rules,
+      search rules,
+      used-again _ _ _ l.d l.s _ l.invariant.0 c.loop-d-test.true l.invariant.2 c.with_day-s.ensures.0,
+      c.with_day-s.ensures.1 l.d l.invariant.3,
+    )
+
+pub returns : goal.returns
+returns c =
+    let l = c.loop-d in
+    let a = c.args in
+    let e : l.d ≡ a.to = omega arith in
+    ((rw e at l.invariant.2) ∙ used_all _ _ _ c.requires.1, omega arith)

@@ -1,6 +1,0 @@
-use Rattle.statement.proofs.Events.{count-suffices}
-use Rattle.statement.proofs.count_suffices.Statement.{statement}
-use Rattle.statement.proofs.count_suffices.Tie as tie
-
-pub count-suffices-spec : {M : Type 1} → statement M
-count-suffices-spec = tie.close (tie.spec (λ c. count-suffices))

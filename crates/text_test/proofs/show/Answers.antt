@@ -1,0 +1,12 @@
+-- `text_test::show` is safe. The buffer's length is by a lemma: antt would count its bytes. Assumes nothing.
+use Prim.Native.Nat.{ℕ}
+use mathlib.Core.Path.{sym, ◌∙◌}
+use lib.ListN.{length-replicate}
+use borrow.Author.Rules.{rules}
+use Rattle.text_test.proofs.show.Goals as goal
+
+pub slice_bounds-transcript-end : goal.slice_bounds-transcript-end
+slice_bounds-transcript-end c = sym (length-replicate {A = ℕ} 655360 0)
+
+pub slice_bounds-say-end : goal.slice_bounds-say-end
+slice_bounds-say-end c = sym (c.transcript-length.auto.1.0 ∙ length-replicate {A = ℕ} 655360 0)
