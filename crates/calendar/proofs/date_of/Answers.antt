@@ -1,10 +1,8 @@
 use mathlib.Core.Path.{◌≡◌, ◌∙◌, sym, ap}
-use mathlib.Core.Bool.{true}
 use Prim.Native.Nat.{ℕ, ◌+◌, ◌-◌, ◌<◌}
 use borrow.Author.Tests.{not-true, not-false, le-leb, lt-leb}
 use native.Mathlib.Omega.{arith}
-use borrow.Author.Rules.{rules}
-use Rattle.calendar.specs.Calendar.{opens, leap_year}
+use Rattle.calendar.specs.Calendar.{leap_year}
 use Rattle.calendar.specs.declared.Date.{Date}
 use Rattle.calendar.specs.Work.{days_before, year_taken, InYear}
 use Rattle.calendar.specs.declared.Dated.TheVariants.{On}

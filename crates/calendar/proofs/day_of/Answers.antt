@@ -3,8 +3,7 @@ use mathlib.Core.Bool.{true, false≢true}
 use Prim.Native.Nat.{ℕ, ◌+◌, ◌-◌}
 use borrow.Author.Tests.{not-true, not-false, le-leb}
 use native.Mathlib.Omega.{arith}
-use borrow.Author.Rules.{rules}
-use Rattle.calendar.specs.Calendar.{opens, is_in_reach, is_day, date_on, days_after}
+use Rattle.calendar.specs.Calendar.{is_in_reach, is_day, date_on, days_after}
 use Rattle.calendar.specs.declared.Date.{Date}
 use Rattle.calendar.proofs.Laws.{opens-real, opens-reached, reached-real, day-limits, day-reached, day-real, same-day}
 use Rattle.calendar.proofs.day_of.Goals as goal

@@ -1,7 +1,6 @@
 use mathlib.Core.Path.{◌≡◌}
 use Prim.Native.Nat.{ℕ, ◌+◌, ◌*◌, ◌/◌, ◌%◌}
 use native.Mathlib.Omega.{arith}
-use borrow.Author.Rules.{rules}
 use Rattle.calendar.specs.Calendar.{total, length_after, leap_year}
 use Rattle.calendar.specs.Work.{days_before}
 use Rattle.calendar.proofs.Years.{month-sum}

@@ -1,7 +1,6 @@
-use mathlib.Core.Path.{◌∙◌, sym}
+use mathlib.Core.Path.{sym}
 use native.Mathlib.Omega.{arith}
-use borrow.Author.Rules.{rules}
-use Rattle.calendar.proofs.Laws.{Answered, answer-on, answer-outside, month-limit}
+use Rattle.calendar.proofs.Laws.{answer-on, answer-outside, month-limit}
 use Rattle.calendar.proofs.month_of.Goals as goal
 
 pub overflow_cast-result : goal.overflow_cast-result

@@ -1,6 +1,5 @@
-use mathlib.Core.Path.{◌∙◌, sym}
-use borrow.Author.Rules.{rules}
-use Rattle.calendar.proofs.Laws.{Answered, answer-on, answer-outside, day-reached}
+use mathlib.Core.Path.{sym}
+use Rattle.calendar.proofs.Laws.{answer-on, answer-outside, day-reached}
 use Rattle.calendar.proofs.weekday_of.Goals as goal
 
 pub returns-in-On : goal.returns-in-On

@@ -1,12 +1,10 @@
-use Prim.Native.Nat.{◌≤◌}
 use mathlib.Core.Path.{◌≡◌, sym, ◌∙◌}
 use mathlib.Core.Bool.{false, ◌&&◌, and-false}
-use mathlib.Core.Logic.{inl, inr}
 use lib.Dec.{ltb, eqb}
 use native.Mathlib.Omega.{arith}
 use borrow.Author.Rules.{rules}
 use borrow.Author.Tests.{eq-eqb, ne_eqb, le-leb, lt-leb, lt-ltb, le-ltb}
-use Rattle.marks.specs.Marks.{near_of, weather_near}
+use Rattle.marks.specs.Marks.{weather_near}
 use Rattle.marks.proofs.Turns.{near-turn}
 use Rattle.marks.proofs.weather_near.Goals as goal
 use Rattle.marks.proofs.weather_near.Goals.{then-w-lt-SATURDAY+else-left-eq0, else-w-lt-SATURDAY}
