@@ -74,9 +74,6 @@ connect-requires c = (c.requires, c.in-0-1.keys11)
 pub returns-in-11 : goal.returns-in-11
 returns-in-11 c = c.connect.ensures ∙ sym (of-sort _ _ _ _ _ _ c.in-0-1.keys11)
 
-pub refuse-requires : goal.refuse-requires
-refuse-requires c = (search rules) c
-
 pub returns-in-0 : goal.returns-in-0
 returns-in-0 c = absurd (no_other _ (early _ _ _ c.requires).limits (elim c.in-0-1.branch [
   | inl w ↦ inl w.keys12

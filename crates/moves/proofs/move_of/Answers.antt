@@ -29,21 +29,3 @@ pub returns : goal.returns
 unfolding cells_before
 returns c =
     is_move c.before.before.before.before.before.before.before _ (c.by_sort.ensures ∙ sym (goes_on _ _ _ _ _ _ (sym c.early-early.ensures ∙ c.if-early-ne0.false)))
-
-pub overflow_cast-at : goal.overflow_cast-at
-overflow_cast-at c = (search rules) c
-
-pub bounds-charges-0 : goal.bounds-charges-0
-bounds-charges-0 c = (search rules) c
-
-pub bounds-warned-at : goal.bounds-warned-at
-bounds-warned-at c = (search rules) c
-
-pub early-early-requires : goal.early-early-requires
-early-early-requires c = (search rules) c
-
-pub refuse-requires : goal.refuse-requires
-refuse-requires c = (search rules) c
-
-pub by_sort-requires : goal.by_sort-requires
-by_sort-requires c = (search rules) c
