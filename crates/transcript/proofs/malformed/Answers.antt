@@ -3,10 +3,9 @@ use mathlib.Core.Path.{ap}
 use mathlib.Core.Bool.{false}
 use Rattle.account.specs.declared.Opened.{Opened}
 use Rattle.transcript.specs.declared.Progress.{Progress}
-use borrow.Author.Rules.{rules}
 use Rattle.transcript.proofs.malformed.Goals as goal
 
 pub returns : goal.returns
 returns c =
-    let start : Opened → Progress = λ o. record { account = o.account-1; at = 0; count = 0; code = 15; length = 0; done = false } in
-    ap start c.«open».ensures
+    let start : Opened → Progress = λ o. record { account = o.account; at = 0; count = 0; code = 15; length = 0; done = false } in
+    ap start c.open-opened.ensures

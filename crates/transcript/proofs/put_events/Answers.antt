@@ -1,51 +1,36 @@
 -- `transcript::put_events` meets its contract. Assumes nothing.
-use Prim.Native.Nat.{◌-◌}
 use mathlib.Core.Path.{◌≡◌, ◌∙◌}
 use native.Mathlib.Omega.{arith}
-use lib.ListN.{length}
-use borrow.Author.Rules.{rules}
 use Rattle.account.specs.Step.{step_of, with_cells}
 use Rattle.account.specs.declared.Posted.{Posted}
 use Rattle.account.proofs.Written.{written-always}
-use Rattle.text.specs.Text.{EventAt}
-use Rattle.text.specs.declared.EventRead.TheVariants.{Got}
-use Rattle.transcript.proofs.Turn.{Going, begins, sized, turns, pauses, stops, ends}
+use Rattle.transcript.proofs.Turn.{begins, sized, turns, pauses, stops, ends}
 use Rattle.transcript.proofs.put_events.Goals as goal
 
--- the places of an event's turn: from the last write back to the move, and from the move back to the event read, the room, the test and the loop
-abbrev at-move : tie.After-set invariant-loop decreases-loop → tie.After-move-of invariant-loop decreases-loop
-at-move c = c.before.before.before.before.before.before.before.before
-
-abbrev at_read : tie.After-move-of invariant-loop decreases-loop → tie.After-read invariant-loop decreases-loop
-at_read c = c.before.before.before.before.before.before.before.before.before.before.before.before
-
-abbrev at_room : tie.After-move-of invariant-loop decreases-loop → tie.Else1 invariant-loop decreases-loop
-at_room c = (at_read c).before.before.before
-
-abbrev at_test : tie.After-move-of invariant-loop decreases-loop → tie.In-loop invariant-loop decreases-loop
-at_test c = (at_room c).before
-
-abbrev at-loop : tie.After-move-of invariant-loop decreases-loop → tie.At-loop invariant-loop decreases-loop
-at-loop c = (at_test c).before
-
--- the record with the move written back is the step's
-is-step : (c : goal.After-move_of-m) → let r = c.before.before.before.before.before.before.before.before.before.before.before.before in let b = r.loop-at.b in let e = r.read-1.given.0.0 in let m = c.move_of-m.result in ◌≡◌ {A = Posted} (record { account = with_cells b e m; code = m.code; value = m.value }) (step_of b e)
-is-step c = rw c.move_of-m.ensures.move (written-always _ _)
-
 pub returns-then-out-place-lt-PIECE_ROOM : goal.returns-then-out-place-lt-PIECE_ROOM
-returns-then-out-place-lt-PIECE_ROOM c = let s = c.before.before.before.before.before.before in pauses _ _ _ _ _ _ _ _ c.loop-at.invariant s.requires.0 s.requires.1 s.requires.2 s.requires.3 c.loop-at-test.true c.if-out-place-lt-PIECE_ROOM.true
+returns-then-out-place-lt-PIECE_ROOM c =
+    let r = c.requires in
+    pauses _ _ _ _ _ _ _ _ c.loop-at.invariant r.0 r.1 r.2 r.3 c.loop-at-test.true c.if-out-place-lt-PIECE_ROOM.true
 
 pub overflow_add-count : goal.overflow_add-count
-overflow_add-count c = omega (arith, (at-loop (at-move c)).loop.inv.counted, (at_test (at-move c)).loop-test.taken, (at-loop (at-move c)).before.before.before.before.good)
+overflow_add-count c = omega (arith, c.loop-at.invariant.counted, c.loop-at-test.true)
 
 pub put_event-place-requires : goal.put_event-place-requires
-put_event-place-requires c = omega (arith, (at-loop (at-move c.before)).loop.inv.room, (at_room (at-move c.before)).if1.left)
+put_event-place-requires c = omega (arith, c.loop-at.invariant.room, c.if-out-place-lt-PIECE_ROOM.false)
 
 pub loop-at-smaller : goal.loop-at-smaller
-loop-at-smaller c = let m = at-move c.before.before.before.before in let e = read_as (at_read m) in omega (arith, e.1, e.2, (at_test m).loop-test.taken)
+loop-at-smaller c = let e = c.in-Got.ensures in omega (arith, e.1, e.2, c.loop-at-test.true)
 
 pub loop-at-preserved : goal.loop-at-preserved
-loop-at-preserved c = let m = at-move c.before.before.before.before in let e = read_as (at_read m) in turns _ _ _ _ _ _ _ _ _ _ (at-loop m).loop.inv _ _ _ _ _ (at_test m).loop-test.taken e.0 e.1 e.2 (at_room m).if1.left (rw c.set.ensures (is-step m)) c.put_event-place.ensures.0 c.put_event-place.ensures.1
+loop-at-preserved c =
+    let e = c.in-Got.ensures in
+    let b = c.loop-at.b in
+    let m = c.move_of-m.result in
+    -- the record with the move written back is the step's
+    let is-step : ◌≡◌ {A = Posted} (record { account = with_cells b c.in-Got.event m; code = m.code; value = m.value }) (step_of b c.in-Got.event) =
+        rw c.move_of-m.ensures.move (written-always _ _) in
+    turns _ _ _ _ _ _ _ _ _ _ c.loop-at.invariant _ _ _ _ _ c.loop-at-test.true e.0 e.1 e.2 c.if-out-place-lt-PIECE_ROOM.false
+    (rw c.set.ensures is-step) c.put_event-place.ensures.wrote c.put_event-place.ensures.upper_bound
 
 pub overflow_add-count-in-Broken : goal.overflow_add-count-in-Broken
 overflow_add-count-in-Broken c = omega (arith, c.loop-at.invariant.counted, c.loop-at-test.true)
@@ -54,19 +39,25 @@ pub put_event-after-requires : goal.put_event-after-requires
 put_event-after-requires c = omega (arith, c.loop-at.invariant.room, c.if-out-place-lt-PIECE_ROOM.false)
 
 pub put_last_line-length-requires : goal.put_last_line-length-requires
-put_last_line-length-requires c = omega (arith, c.loop-at.invariant.room, c.if-out-place-lt-PIECE_ROOM.false, c.put_event-after.ensures.1, c.put_event-after.auto.0)
+put_last_line-length-requires c =
+    omega (arith, c.loop-at.invariant.room, c.if-out-place-lt-PIECE_ROOM.false, c.put_event-after.ensures.upper_bound, c.put_event-after.auto.out)
 
 pub shape_of-out-in-Broken : goal.shape_of-out-in-Broken
-shape_of-out-in-Broken c = c.put_last_line-length.auto.0 ∙ c.put_event-after.auto.0 ∙ sized _ _ _ _ _ _ _ _ _ _ c.loop-at.invariant
+shape_of-out-in-Broken c = c.put_last_line-length.auto.out ∙ c.put_event-after.auto.out ∙ sized _ _ _ _ _ _ _ _ _ _ c.loop-at.invariant
 
 pub returns-in-Broken : goal.returns-in-Broken
-returns-in-Broken c = let r = c.before.before.before.before.before.before.before.before.before.before.before.before in let t = r.before in let l = t.before in let s = l.before.before.before.before in stops _ _ _ _ _ _ _ _ l.loop-at.invariant s.requires.0 s.requires.1 s.requires.2 s.requires.3 _ _ _ _ t.loop-at-test.true r.if-out-place-lt-PIECE_ROOM.false (rw c.enum_told-1.given.1 at c.read_event-read.ensures) c.put_event-after.ensures.0 c.put_last_line-length.ensures
+returns-in-Broken c =
+    let r = c.requires in
+    stops _ _ _ _ _ _ _ _ c.loop-at.invariant r.0 r.1 r.2 r.3 _ _ _ _ c.loop-at-test.true c.if-out-place-lt-PIECE_ROOM.false c.in-Broken.ensures
+    c.put_event-after.ensures.wrote c.put_last_line-length.ensures
 
 pub shape_of-out : goal.shape_of-out
-shape_of-out c = c.put_last_line-length-2.auto.0 ∙ sized _ _ _ _ _ _ _ _ _ _ c.loop-at.invariant
+shape_of-out c = c.put_last_line-length-2.auto.out ∙ sized _ _ _ _ _ _ _ _ _ _ c.loop-at.invariant
 
 pub returns : goal.returns
-returns c = let s = c.before.before.before.before.before.before.before.before.before.before in ends _ _ _ _ _ _ _ _ c.loop-at.invariant s.requires.0 s.requires.1 s.requires.2 s.requires.3 _ _ c.loop-at-test.false c.put_last_line-length-2.ensures
+returns c =
+    let r = c.requires in
+    ends _ _ _ _ _ _ _ _ c.loop-at.invariant r.0 r.1 r.2 r.3 _ _ c.loop-at-test.false c.put_last_line-length-2.ensures
 
 pub loop-at-init : goal.loop-at-init
 loop-at-init c = begins _ _ _ _ _ c.requires.3 c.requires.2
