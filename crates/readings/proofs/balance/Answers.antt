@@ -20,4 +20,4 @@ pub returns : goal.returns
 unfolding balance_of
 returns c =
     is-balance _ _
-    (back c.signed.result (record { sfits = c.signed.type-inv }) ∙ simp (le-leb _ _ c.if-s-gt-MAX_TOTAL.false, le-leb _ _ c.if-s-gt-MAX_TOTAL-2.false) c.signed.ensures)
+    (back c.signed.result (record { sfits = c.signed.type_inv }) ∙ simp (le-leb _ _ c.if-s-gt-MAX_TOTAL.false, le-leb _ _ c.if-s-gt-MAX_TOTAL-2.false) c.signed.ensures)

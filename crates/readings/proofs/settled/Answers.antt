@@ -28,4 +28,4 @@ pub returns : goal.returns
 unfolding settled_of
 returns c =
     is-settled _ _
-    (back c.signed.result (record { sfits = c.signed.type-inv }) ∙ simp (le-leb _ _ c.if-s-gt-MAX_TOTAL.false, le-leb _ _ c.if-s-gt-MAX_TOTAL-2.false, le-leb _ _ c.if-s-gt-MAX_TOTAL-3.false, le-leb _ _ c.if-s-gt-MAX_TOTAL-4.false) c.signed.ensures)
+    (back c.signed.result (record { sfits = c.signed.type_inv }) ∙ simp (le-leb _ _ c.if-s-gt-MAX_TOTAL.false, le-leb _ _ c.if-s-gt-MAX_TOTAL-2.false, le-leb _ _ c.if-s-gt-MAX_TOTAL-3.false, le-leb _ _ c.if-s-gt-MAX_TOTAL-4.false) c.signed.ensures)
