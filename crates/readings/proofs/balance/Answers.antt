@@ -1,7 +1,6 @@
 -- `readings::balance` meets its contract: off the totals by the tests that led there, and so the ledger's for every list that made them.
 -- Assumes nothing.
 use mathlib.Core.Path.{◌∙◌}
-use borrow.Author.Rules.{rules}
 use borrow.Author.Tests.{le-leb, lt-leb}
 use Rattle.readings.specs.Readings.{balance_of}
 use Rattle.readings.proofs.After.{is-balance}
