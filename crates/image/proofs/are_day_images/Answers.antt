@@ -11,12 +11,12 @@ use Rattle.image.proofs.are_day_images.Goals as goal
 pub returns-then-not-is_day_image : goal.returns-then-not-is_day_image
 returns-then-not-is_day_image c =
     let l = c.loop-i in
-    sym (stops is_day_image 400 _ l.i _ c.loop-i-test.true (sym c.is_day_image.ensures ∙ not-true _ c.if-not-is_day_image.true-raw) l.invariant)
+    sym (stops is_day_image 400 _ l.i _ c.loop-i-test.true (sym c.is_day_image.ensures ∙ c.if-not-is_day_image.true) l.invariant)
 
 pub loop-i-preserved : goal.loop-i-preserved
 loop-i-preserved c =
     let l = c.loop-i in
-    passes is_day_image 400 _ l.i _ c.loop-i-test.true (sym c.is_day_image.ensures ∙ not-false _ c.if-not-is_day_image.false-raw) l.invariant
+    passes is_day_image 400 _ l.i _ c.loop-i-test.true (sym c.is_day_image.ensures ∙ c.if-not-is_day_image.false) l.invariant
 
 pub loop-i-init : goal.loop-i-init
 loop-i-init c = starts is_day_image 400 _ (search rules)

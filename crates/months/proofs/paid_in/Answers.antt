@@ -15,8 +15,8 @@ pub loop-n-preserved : goal.loop-n-preserved
 loop-n-preserved c =
     let l = c.loop-n in (
       search rules,
-      paid-again _ _ l.n l.s _ l.invariant.1 c.with_payment-s.ensures.0,
-      c.with_payment-s.ensures.1 l.n l.invariant.2,
+      paid-again _ _ l.n l.s _ l.invariant.1 c.with_payment-s.ensures.value,
+      c.with_payment-s.ensures.by_index l.n l.invariant.2,
     )
 
 pub returns : goal.returns

@@ -18,7 +18,7 @@ pub loop-m-preserved : goal.loop-m-preserved
 loop-m-preserved c =
     let l = c.loop-m in
     let line = c.put_line-place.ensures in
-    (search rules, omega (arith, l.invariant.1, line.1), one_more _ l.m _ l.invariant.2 c.summary-s.ensures.account line.0)
+    (search rules, omega (arith, l.invariant.1, line.upper_bound), one_more _ l.m _ l.invariant.2 c.summary-s.ensures.account line.wrote)
 
 pub returns : goal.returns
 returns c =
