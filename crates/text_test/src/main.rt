@@ -7,8 +7,9 @@
 
 ghost use Rattle.std.specs.Prelude.{◌≤◌, length};
 
-use libc::{STDIN_FILENO, STDOUT_FILENO};
 use printing::put_bytes;
+use std::io;
+use std::io::{BufWriter, Read, Write};
 use transcript::TRANSCRIPT_ROOM;
 
 // The first such byte, or the end.
@@ -26,37 +27,33 @@ fn find(text: &[u8], byte: u8) -> usize
 }
 
 // A transcript; of a long one, its length and its last bytes.
-fn say(out: &[u8], length: usize) {
+fn say(to: &mut impl Write, out: &[u8], length: usize) -> io::Result<()> {
     if length > out.len() {
-        return;
+        return Ok(());
     }
-    let first = 0;
     if length < 4096 {
-        io::write_all(STDOUT_FILENO, &out[first..length]);
-        return;
+        return to.write_all(&out[..length]);
     }
-    io::print_decimal(STDOUT_FILENO, length as u64);
-    io::write_all(STDOUT_FILENO, b" bytes, the last of them\n");
+    writeln!(to, "{length} bytes, the last of them")?;
     let from = length - 67;
-    io::write_all(STDOUT_FILENO, &out[from..length]);
+    to.write_all(&out[from..length])
 }
 
-fn show(text: &[u8]) {
+fn show(to: &mut impl Write, text: &[u8]) -> io::Result<()> {
     let mut out = [0u8; TRANSCRIPT_ROOM];
     let length = transcript::transcript(text, &mut out);
-    say(&out, length);
+    say(to, &out, length)
 }
 
-fn short_buffer() {
+fn short_buffer(to: &mut impl Write) -> io::Result<()> {
     let mut out = [0u8; TRANSCRIPT_ROOM - 1];
     let length = transcript::transcript(b"", &mut out);
-    io::write_all(STDOUT_FILENO, b"# a buffer of 655359 bytes\n");
-    io::print_decimal(STDOUT_FILENO, length as u64);
-    io::write_all(STDOUT_FILENO, b" bytes\n");
+    writeln!(to, "# a buffer of 655359 bytes")?;
+    writeln!(to, "{length} bytes")
 }
 
 // The text of the lines and 4,675 times the piece.
-fn long(lines: &[u8], piece: &[u8]) {
+fn long(to: &mut impl Write, lines: &[u8], piece: &[u8]) -> io::Result<()> {
     let mut text = [0u8; text::MAX_TEXT + 1];
     let mut at = put_bytes(&mut text, 0, lines);
     let mut n: u32 = 0;
@@ -64,31 +61,28 @@ fn long(lines: &[u8], piece: &[u8]) {
         at = put_bytes(&mut text, at, piece);
         n += 1;
     }
-    let first = 0;
-    if at <= text.len() {
-        show(&text[first..at]);
+    if at > text.len() {
+        return Ok(());
     }
+    show(to, &text[..at])
 }
 
 // A name, or a text.
-fn one(part: &[u8]) {
+fn one(to: &mut impl Write, part: &[u8]) -> io::Result<()> {
     if part.len() > 0 {
         if part[0] == b'#' {
-            io::write_all(STDOUT_FILENO, part);
-            return;
+            return to.write_all(part);
         }
     }
     let star = find(part, b'*');
     if star == part.len() {
-        show(part);
-        return;
+        return show(to, part);
     }
-    let first = 0;
     let after = star + 1;
-    long(&part[first..star], &part[after..]);
+    long(to, &part[..star], &part[after..])
 }
 
-fn all(cases: &[u8]) {
+fn all(to: &mut impl Write, cases: &[u8]) -> io::Result<()> {
     let mut start = 0;
     let mut i = 0;
     while i < cases.len() {
@@ -96,15 +90,18 @@ fn all(cases: &[u8]) {
             i += 1;
             continue;
         }
-        one(&cases[start..i]);
+        one(to, &cases[start..i])?;
         i += 1;
         start = i;
     }
+    Ok(())
 }
 
-fn main() {
-    let mut cases = io::large_buffer();
-    let count = io::read_full(STDIN_FILENO, &mut cases);
-    all(&cases[..count]);
-    short_buffer();
+fn main(rt: HostRuntime) -> io::Result<()> {
+    let mut cases = Vec::new(rt.alloc());
+    rt.reader().read_to_end(&mut cases)?;
+    let mut to = BufWriter::new(rt.alloc(), io::writer(&rt))?;
+    all(&mut to, &cases)?;
+    short_buffer(&mut to)?;
+    to.flush()
 }

@@ -2,11 +2,10 @@
 use Prim.Native.Nat.{ℕ}
 use mathlib.Core.Path.{sym, ◌∙◌}
 use lib.ListN.{length-replicate}
-use borrow.Author.Rules.{rules}
 use Rattle.text_test.proofs.show.Goals as goal
 
 pub slice_bounds-transcript-end : goal.slice_bounds-transcript-end
-slice_bounds-transcript-end c = sym (length-replicate {A = ℕ} 655360 0)
+slice_bounds-transcript-end g c = sym (length-replicate {A = ℕ} 655360 0)
 
 pub slice_bounds-say-end : goal.slice_bounds-say-end
-slice_bounds-say-end c = sym (c.transcript-length.auto.1.0 ∙ length-replicate {A = ℕ} 655360 0)
+slice_bounds-say-end g c = sym (c.transcript-length.auto.out ∙ length-replicate {A = ℕ} 655360 0)
