@@ -1,10 +1,8 @@
 -- `months::paid_in` meets its contract. The loop's invariant: what the payments passed come to.
 -- Assumes nothing.
-use Prim.Native.Nat.{◌≤◌, ◌-◌}
 use mathlib.Core.Path.{◌≡◌}
 use native.Mathlib.Omega.{arith}
 use borrow.Author.Rules.{rules}
-use Rattle.months.specs.Work.{span, paid_by, PaidTo}
 use Rattle.months.proofs.Turns.{paid-none, paid-again}
 use Rattle.months.proofs.paid_in.Goals as goal
 

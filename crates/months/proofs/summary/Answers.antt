@@ -1,8 +1,6 @@
 -- `months::summary` meets its contract: off the record, and so in the ledger's terms.
 -- Assumes nothing.
-use mathlib.Core.Path.{◌≡◌, sym, ◌∙◌}
-use mathlib.Core.Bool.{true, false}
-use Rattle.moves.specs.Moves.{is_account}
+use mathlib.Core.Path.{sym, ◌∙◌}
 use Rattle.moves.proofs.Early.{in_reach}
 use Rattle.months.proofs.Span.{month-small, summary-other, summary-none, summary-some}
 use Rattle.months.proofs.Agrees.{promised}

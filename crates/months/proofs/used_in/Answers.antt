@@ -1,10 +1,8 @@
 -- `months::used_in` meets its contract. The loop's invariant: what the days passed come to; those before `from` come to nothing.
 -- Assumes nothing.
-use Prim.Native.Nat.{◌≤◌, ◌-◌}
 use mathlib.Core.Path.{◌≡◌, ◌∙◌}
 use native.Mathlib.Omega.{arith}
 use borrow.Author.Rules.{rules}
-use Rattle.months.specs.Work.{span, used_by, UsedTo}
 use Rattle.months.proofs.Turns.{used-none, used-again, used_all}
 use Rattle.months.proofs.used_in.Goals as goal
 
@@ -16,7 +14,7 @@ loop-d-preserved c =
     let l = c.loop-d in (
       search rules,
       search rules,
-      used-again _ _ _ l.d l.s _ l.invariant.0 c.loop-d-test.true l.invariant.2 c.with_day-s.ensures.value,
+      used-again _ _ _ l.d l.s _ l.invariant.0 (omega arith) l.invariant.2 c.with_day-s.ensures.value,
       c.with_day-s.ensures.by_index l.d l.invariant.3,
     )
 

@@ -1,11 +1,8 @@
 -- `months::used_in` meets its contract. The loop's invariant: what the days passed come to; those before `from` come to nothing.
 -- Assumes nothing.
 use Prim.Native.Nat.{◌≤◌, ◌-◌}
-use mathlib.Core.Path.{◌≡◌, ◌∙◌}
-use native.Mathlib.Omega.{arith}
-use borrow.Author.Rules.{rules}
+use mathlib.Core.Path.{◌≡◌}
 use Rattle.months.specs.Work.{span, used_by, UsedTo}
-use Rattle.months.proofs.Turns.{used-none, used-again, used_all}
 use Rattle.months.proofs.used_in.Given as goal
 
 abbrev pub invariant-loop-d : goal.invariant-loop-d
