@@ -1,5 +1,4 @@
 -- `scanner::date_of` meets its contract. Assumes nothing.
-use borrow.Author.Rules.{rules}
 use Rattle.scanner.proofs.Dates.{other-size, no-first-hyphen, no-second-hyphen, no-century, no-years, no-month, no-day, whole-date}
 use Rattle.scanner.proofs.date_of.Goals as goal
 

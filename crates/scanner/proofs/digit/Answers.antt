@@ -1,6 +1,5 @@
 -- `scanner::digit` meets its contract. Assumes nothing.
 use mathlib.Core.Bool.{and-false}
-use borrow.Author.Rules.{rules}
 use borrow.Author.Tests.{le-leb, lt-leb}
 use Rattle.scanner.proofs.digit.Goals as goal
 

@@ -1,12 +1,8 @@
 -- `scanner::line_end` meets its contract. The loop's invariant: no line feed stands before `i`.
 -- Assumes nothing.
-use Prim.Native.Nat.{ℕ, ◌≤◌, ◌<◌, ◌-◌}
-use mathlib.Core.Path.{◌≡◌}
 use native.Mathlib.Omega.{arith}
-use lib.ListN.{length, get_or}
 use borrow.Author.Count.{below_more}
 use borrow.Author.Rules.{rules}
-use Rattle.scanner.specs.Scanner.{feed}
 use Rattle.scanner.proofs.Lines.{feed-found, feed-none}
 use Rattle.scanner.proofs.line_end.Goals as goal
 

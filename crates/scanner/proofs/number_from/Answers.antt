@@ -1,14 +1,12 @@
 -- `scanner::number_from` meets its contract. The loop's invariant: what is left up to the line feed, after the number so far, gives the same.
 -- Assumes nothing.
-use Prim.Native.Nat.{ℕ, ◌≤◌, ◌-◌}
+use Prim.Native.Nat.{◌≤◌}
 use mathlib.Core.Path.{◌≡◌, refl, ◌∙◌}
-use mathlib.Core.List.{List}
 use mathlib.Core.Logic.{◌⊎◌, inl, inr}
 use native.Mathlib.Omega.{arith}
-use lib.ListN.{length, get_or, drop}
+use lib.ListN.{get_or}
 use borrow.Author.Rules.{rules}
-use Rattle.scanner.specs.Places.{number_line}
-use Rattle.scanner.proofs.Digits.{no_digit, a-digit, left, from_start, text-ends, other_byte, empty-number, number-ends, leading-zero, next-digit, above}
+use Rattle.scanner.proofs.Digits.{no_digit, a-digit, from_start, text-ends, other_byte, empty-number, number-ends, leading-zero, next-digit, above}
 use Rattle.scanner.proofs.number_from.Goals as goal
 use Rattle.scanner.proofs.number_from.Goals.{then-n-eq0+else-i-from-2, else-n-eq0}
 

@@ -1,14 +1,10 @@
 -- `scanner::number_from` meets its contract. The loop's invariant: what is left up to the line feed, after the number so far, gives the same.
 -- Assumes nothing.
-use Prim.Native.Nat.{ℕ, ◌≤◌, ◌-◌}
-use mathlib.Core.Path.{◌≡◌, refl, ◌∙◌}
-use mathlib.Core.List.{List}
-use mathlib.Core.Logic.{◌⊎◌, inl, inr}
-use native.Mathlib.Omega.{arith}
-use lib.ListN.{length, get_or, drop}
-use borrow.Author.Rules.{rules}
+use Prim.Native.Nat.{◌≤◌, ◌-◌}
+use mathlib.Core.Path.{◌≡◌}
+use lib.ListN.{length, drop}
 use Rattle.scanner.specs.Places.{number_line}
-use Rattle.scanner.proofs.Digits.{no_digit, a-digit, left, from_start, text-ends, other_byte, empty-number, number-ends, leading-zero, next-digit, above}
+use Rattle.scanner.proofs.Digits.{left}
 use Rattle.scanner.proofs.number_from.Given as goal
 
 abbrev pub invariant-loop-i : goal.invariant-loop-i

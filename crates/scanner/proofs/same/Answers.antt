@@ -1,11 +1,8 @@
 -- `scanner::same` meets its contract. The loop's invariant: what is left of the two gives the same.
 -- Assumes nothing.
-use Prim.Native.Nat.{◌-◌}
-use mathlib.Core.Path.{◌≡◌, refl, sym, ◌∙◌}
+use mathlib.Core.Path.{refl, sym, ◌∙◌}
 use native.Mathlib.Omega.{arith}
-use lib.ListN.{length, drop}
 use borrow.Author.Rules.{rules}
-use Rattle.scanner.specs.Scanner.{same}
 use Rattle.scanner.proofs.Words.{other_length, same_turn, same-other, same_ends}
 use Rattle.scanner.proofs.same.Goals as goal
 

@@ -1,5 +1,4 @@
 -- `scanner::two_digits` meets its contract. Assumes nothing.
-use borrow.Author.Rules.{rules}
 use Rattle.scanner.proofs.Dates.{no-tens, no-units, both-digits}
 use Rattle.scanner.proofs.two_digits.Goals as goal
 

@@ -1,12 +1,10 @@
 -- `scanner::value_start` meets its contract. The loop's invariant: what is left of the key and the text gives the same.
 -- Assumes nothing.
 use Prim.Native.Nat.{◌-◌}
-use mathlib.Core.Path.{◌≡◌, refl, ◌∙◌}
+use mathlib.Core.Path.{◌≡◌}
 use mathlib.Core.List.{◌++◌}
 use lib.ListN.{length, drop}
-use borrow.Author.Rules.{rules}
 use Rattle.scanner.specs.Scanner.{bytes, after_prefix}
-use Rattle.scanner.proofs.Lines.{text-ends, key-turn, key-other, key-ends, no-equals}
 use Rattle.scanner.proofs.value_start.Given as goal
 
 abbrev pub invariant-loop-i : goal.invariant-loop-i

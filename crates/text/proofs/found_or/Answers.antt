@@ -1,6 +1,5 @@
 -- `text::found_or` meets its contract. Assumes nothing.
 use mathlib.Core.Path.{sym, ◌∙◌}
-use borrow.Author.Rules.{rules}
 use borrow.Author.Tests.{ne_eqb}
 use Rattle.text.specs.Places.{found_or}
 use Rattle.text.proofs.found_or.Goals as goal

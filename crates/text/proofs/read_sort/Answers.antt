@@ -1,6 +1,4 @@
 -- `text::read_sort` meets its contract. Assumes nothing.
-use mathlib.Core.Path.{subst}
-use native.Mathlib.Omega.{arith}
 use Rattle.text.proofs.Sorts.{no-do, no_word, sort-is}
 use Rattle.text.proofs.read_sort.Goals as goal
 
