@@ -1,11 +1,9 @@
 -- `image::are_day_images` meets its contract. The loop's invariant: what is left gives the same.
 -- Assumes nothing.
-use Prim.Native.Nat.{◌-◌}
 use mathlib.Core.Path.{sym, ◌∙◌}
 use borrow.Author.Rules.{rules}
-use borrow.Author.Tests.{not-true, not-false}
 use Rattle.image.specs.Image.{is_day_image}
-use Rattle.image.proofs.Lists.{Rest, starts, passes, stops, none_left}
+use Rattle.image.proofs.Lists.{starts, passes, stops, none_left}
 use Rattle.image.proofs.are_day_images.Goals as goal
 
 pub returns-then-not-is_day_image : goal.returns-then-not-is_day_image

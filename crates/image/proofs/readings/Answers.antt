@@ -2,7 +2,7 @@ use mathlib.Core.Path.{ap, ◌∙◌}
 use mathlib.Core.Bool.{Bool, cond}
 use mir.Syntax.{w64}
 use mir.Facts.{to_z-of_z}
-use borrow.Author.Rules.{rules, sfits_of}
+use borrow.Author.Rules.{sfits_of}
 use Rattle.moves.specs.declared.Totals.{Totals}
 use Rattle.readings.specs.Readings.{balance_of, settled_of}
 use Rattle.image.specs.Image.{totals_of, readings_of}
