@@ -1,8 +1,8 @@
 #!/bin/bash
 # bench/run.sh [SAMPLES]: what the Rattle head costs, beside a Rust account written for speed (rust/), the slow reference (compare/reference)
 # and a bare copy of the record. Both sides in one run, release builds, the same inputs, medians of SAMPLES (default 201) runs in turn, on
-# one core. Needs crates/head/out/libhead.a and crates/prepay/out/prepay (rt lib head, rt run prepay </dev/null), cargo and a C compiler; valgrind
-# for the counted instructions. HEAD_LIB and HEAD_BIN name other folders. Everything is built in bench/rust/target. About a minute.
+# one core. Needs crates/head/out/libhead.a and crates/prepay/out/prepay (rt lib in crates/head, rt run </dev/null in crates/prepay),
+# cargo and a C compiler; valgrind for the counted instructions. HEAD_LIB and HEAD_BIN name other folders. Everything is built in bench/rust/target. About a minute.
 set -euo pipefail
 cd "$(dirname "$0")"
 samples=${1:-201}

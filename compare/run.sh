@@ -2,7 +2,7 @@
 # Compares the Rattle library and programs with the reference.
 # Arguments: number of texts and of lists of calls (default 20000 each), seed (default 1); more are passed
 # on to the comparison (`reference/target/release/compare --help` lists them).
-# The library must have been built by `rt lib head`, the programs by `rt run prepay </dev/null` and `rt run summary </dev/null`;
+# The library must have been built by `rt lib` in crates/head, the programs by `rt run </dev/null` in crates/prepay and crates/summary;
 # HEAD_LIBRARY, PREPAY and SUMMARY name others. Programs that are not there are left out.
 set -euo pipefail
 cd "$(dirname "$0")"
@@ -12,7 +12,7 @@ shift $(($# < 2 ? $# : 2))
 
 library=$(realpath -m "${HEAD_LIBRARY:-../crates/head/out/libhead.a}")
 if [[ ! -e $library ]]; then
-    echo "$library is not there: run rt lib head first" >&2
+    echo "$library is not there: run rt lib in crates/head first" >&2
     exit 2
 fi
 programs=()

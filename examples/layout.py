@@ -2,13 +2,12 @@
 """The structs and functions of include/head.h, and what Rattle proves of them.
 
 layout.py fields          the lines of layout.c that print each struct and field of the header
-layout.py proved GOALS    the proved layout, in the lines that `layout print` prints; GOALS is target/goals after `rt goals` of calendar,
-                          terms, ledger, image and head
+layout.py proved GOALS    the proved layout, in the lines that `layout print` prints; GOALS has what `rt check --generated GOALS/NAME` writes
+                          of calendar, terms, ledger, image and head
 
-Sizes and alignments are the proved numbers (`size-is`, `align-is` of each type's Laws.antt). The places of the fields follow from the
-proved list of field types (`mir-is`) by C's rule: each field at the next multiple of its alignment. That rule is applied to the whole
-struct too and must give the proved size and alignment. The types of the parameters and results are those of head's functions
-(Code/Mir.antt), held to the header's.
+Sizes, alignments and the places of the fields are the proved numbers (`given` of each type's TheLaws.antt, which `lies` proves of the
+types of its `table`). C's rule, each field at the next multiple of its alignment, is applied to the whole struct too and must give the
+same. The types of the parameters and results are those of head's functions (Code/Mir.antt), held to the header's.
 """
 import re
 import sys
@@ -89,10 +88,19 @@ def name(e):
     """A name is a list of character codes."""
     s = ""
     while e != "List.[]":
-        assert e[0] == "List._∷_" and len(e) == 3, e
+        assert e[0] == "List.◌∷◌" and len(e) == 3, e
         s += chr(int(e[1]))
         e = e[2]
     return s
+
+
+def listed(e):
+    out = []
+    while e != "List.[]":
+        assert e[0] == "List.◌∷◌" and len(e) == 3, e
+        out.append(e[1])
+        e = e[2]
+    return out
 
 
 def fields(e):
@@ -108,11 +116,11 @@ def up(n, to):
     return (n + to - 1) // to * to
 
 
-def struct(parts):
+def struct(parts, table):
     """Places of the fields, size and alignment, by C's rule."""
     at, align, places = 0, 1, []
     for p in parts:
-        size, a = layout(p)
+        size, a = layout(p, table)
         at = up(at, a)
         places.append((at, size))
         at += size
@@ -120,36 +128,49 @@ def struct(parts):
     return places, up(at, align), align
 
 
-def layout(e):
-    if e == "Syntax.tyBool":
+def layout(e, table):
+    if e == "Syntax.ty_bool":
         return 1, 1
-    if e[0] == "Syntax.tyInt":
+    if e[0] == "Syntax.ty_int":
         n = int(e[1].removeprefix("Syntax.w")) // 8
         return n, n
-    if e[0] == "Syntax.tyArray":
-        size, align = layout(e[1])
+    if e[0] == "Syntax.ty_array":
+        size, align = layout(e[1], table)
         return size * int(e[2]), align
-    if e[0] == "Syntax.tyStruct":
-        return struct(fields(e[2]))[1:]
+    if e[0] == "Syntax.ty_named":
+        return struct(table[name(e[1][1])], table)[1:]
     raise ValueError(f"a type that C has no like of: {e}")
+
+
+def value(text, what):
+    """The definition `what` of a module."""
+    return parse(re.search(rf"^{what} =(.*?)(?=^\w|\Z)", text, re.S | re.M).group(1))
 
 
 def laws(goals, type_):
     crate, short = type_.split("::")
-    path = goals / crate / f"Rattle·{crate}·proofs" / "proofs" / short / "Laws.antt"
-    text = path.read_text()
-    mir = parse(re.search(r"^mir-is :\s+Path'\._≡_\s+mir\s+\((.*?)^mir-is =", text, re.S | re.M).group(1).rstrip()[:-1])
-    assert mir[0] == "Syntax.tyStruct" and name(mir[1]) == type_, (type_, mir[:2])
-    size = int(re.search(r"^size-is : Path'\._≡_ \(Memory\.size mir\) (\d+)$", text, re.M).group(1))
-    align = int(re.search(r"^align-is : Path'\._≡_ \(Memory\.align mir\) (\d+)$", text, re.M).group(1))
+    text = (goals / crate / f"Rattle-{crate}-proofs" / short / "TheLaws.antt").read_text()
+    rows, given = listed(value(text, "table")), listed(value(text, "given"))
+    assert len(rows) == len(given), type_
+    # An entry is the type's name, its parameters and its fields; what is proved of it: size, alignment and places.
+    table = {}
+    for entry in rows:
+        assert entry[0] == "," and entry[2] == "List.[]" and entry[3][0] == "Table.fields", (type_, entry[:1])
+        table[name(entry[1])] = fields(entry[3][1])
+    assert next(iter(table)) == type_, (type_, [*table])
+    for (of, parts), known in zip(table.items(), given):
+        assert known[0] == "Laid.laid_struct", (type_, of)
+        proved = int(known[1]), int(known[2]), [int(at) for at in listed(known[3])]
+        places, s, a = struct(parts, table)
+        assert proved == (s, a, [at for at, _ in places]), f"{of}: proved {proved}, C's rule gives {(s, a, places)}"
+        if of == type_:
+            size, align, ats = proved
     lowered = re.search(r"^lowered =(.*?)^abbrev", text, re.S | re.M).group(1)
-    names = re.findall(r"\(d \.(\w+)\)", lowered)
-    signed = set(re.findall(r"Val\.ofZ Syntax\.w\d+ \(d \.(\w+)\)", lowered))
-    parts = fields(mir[2])
-    assert len(names) == len(parts), (type_, names)
-    places, s, a = struct(parts)
-    assert (s, a) == (size, align), f"{type_}: proved {size} {align}, C's rule gives {s} {a}"
-    return size, align, [(n, at, sz, n in signed, p) for n, (at, sz), p in zip(names, places, parts)]
+    names = re.findall(r"\bd\.(\w+)", lowered)
+    signed = set(re.findall(r"Val\.of_z Syntax\.w\d+ d\.(\w+)", lowered))
+    parts = table[type_]
+    assert len(names) == len(parts) == len(ats), (type_, names)
+    return size, align, [(n, at, layout(p, table)[0], n in signed, p) for n, at, p in zip(names, ats, parts)]
 
 
 def print_type(goals, c, type_):
@@ -157,7 +178,7 @@ def print_type(goals, c, type_):
     print(f"{c} size={size} align={align}")
     for field, at, size, signed, part in rows:
         if FLAT.get(c) == field:
-            inner = laws(goals, name(part[1]))[2]
+            inner = laws(goals, name(part[1][1]))[2]
             inner = [(n, at + a, s, g) for n, a, s, g, _ in inner]
         else:
             inner = [(field, at, size, signed)]
@@ -167,32 +188,28 @@ def print_type(goals, c, type_):
 
 def spelled(e):
     """A type of a function's parameter, as Rattle writes it."""
-    if e[0] == "Syntax.tyInt":
+    if e[0] == "Syntax.ty_int":
         return "u" + e[1].removeprefix("Syntax.w")
-    if e[0] == "Syntax.tyNamed":
+    if e[0] == "Syntax.ty_named":
         return name(e[1][1])
-    if e[0] == "Syntax.tyRef":
+    if e[0] == "Syntax.ty_ref":
         return {"Syntax.mut": "&mut ", "Syntax.imm": "&"}[e[2]] + spelled(e[3])
-    if e[0] == "Syntax.tyStruct" and name(e[1]) == "&[]":
+    if e[0] == "Syntax.ty_struct" and name(e[1]) == "&[]":
         ref, count = fields(e[2])
-        assert count == ["Syntax.tyInt", "Syntax.w64"], count
+        assert count == ["Syntax.ty_int", "Syntax.w64"], count
         mark, of = re.match(r"(&mut |&)(.*)", spelled(ref)).groups()
         return f"{mark}[{of}]"
     raise ValueError(e)
 
 
 def check_prototype(goals, function, wanted):
-    path = goals / "head" / "Rattle·head·proofs" / "proofs" / function / "Code" / "Mir.antt"
+    path = goals / "head" / "Rattle-head-proofs" / function / "Code" / "Mir.antt"
     text = path.read_text()
-    # A function without types of other crates has its own spelling, `function-locals`.
-    found = re.search(r"^(?:by-name-|function-)?locals =(.*?)^abbrev", text, re.S | re.M)
-    locals_ = parse(found.group(1))
+    # A function without types of other crates has its own spelling, without `by_name`.
+    found = re.search(r"^(?:by_name-)?locals =(.*?)^abbrev", text, re.S | re.M)
+    locals_ = listed(parse(found.group(1)))
     params = int(re.search(r"params = (\d+);", text).group(1))
-    types = []
-    for _ in range(params + 1):
-        assert locals_[0] == "List._∷_", locals_
-        types.append(spelled(locals_[1][1]))
-        locals_ = locals_[2]
+    types = [spelled(it[1]) for it in locals_[: params + 1]]
     assert types == wanted, f"{function}: head.h has {wanted}, Rattle {types}"
 
 

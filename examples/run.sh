@@ -1,7 +1,8 @@
 #!/bin/bash
 # The C interface from outside: builds the library where it is missing or older than the crates, the example and two more programs, runs
 # them, and holds them to the stored output, to the program `prepay`, and to the layout that Rattle proves. Ends with 0 if all held.
-# GOALS=no leaves out the proved layout (it needs `rt`, and a minute after a change of the crates). Nothing is written outside target/.
+# GOALS=no leaves out the proved layout (it needs `rt`, and a minute after a change of the crates). Of the repository it writes only
+# target/ and the crates' out/.
 set -euo pipefail
 cd "$(dirname "$0")/.."
 library=crates/head/out/libhead.a
@@ -10,12 +11,13 @@ mkdir -p "$work"
 failed=0
 say() { echo "examples: $*"; }
 fail() { say "FAILED: $*"; failed=1; }
-# Whether a file is missing, or older than some file below crates/.
-stale() { [[ ! -e $1 ]] || [[ -n $(find crates crates.txt -newer "$1" -type f -print -quit) ]]; }
+# Whether a file is missing, or older than some file of a crate.
+stale() { [[ ! -e $1 ]] || [[ -n $(find crates crates.txt -name out -prune -o -newer "$1" -type f -print -quit) ]]; }
 
 if stale "$library"; then
-    say "rt lib head"
-    rt lib head >"$work/staticlib.log" 2>&1 || { tail -20 "$work/staticlib.log"; exit 1; }
+    say "rt lib, in crates/head"
+    (cd crates/head && rt lib) >"$work/lib.log" 2>&1 || { tail -20 "$work/lib.log"; exit 1; }
+    touch "$library"
 fi
 
 python3 examples/layout.py fields >"$work/layout_fields.h"
@@ -59,15 +61,19 @@ done
 # The structs: what the library does, then what is proved.
 "$work/layout" check || fail "the structs of head.h are not the library's"
 if [[ ${GOALS:-} != no ]]; then
-    for crate in calendar terms ledger image head; do
-        if [[ ! -d target/goals/$crate ]] || stale "$work/goals-$crate"; then
-            say "rt goals $crate"
-            rt goals "$crate" >"$work/goals.log" 2>&1 || { tail -20 "$work/goals.log"; exit 1; }
-            touch "$work/goals-$crate"
-        fi
-    done
+    proved=$work/layout.rattle.out
+    if stale "$proved" || [[ include/head.h -nt $proved || examples/layout.py -nt $proved ]]; then
+        # rt's modules are not for the repository, where each .antt file is a crate's.
+        goals=$(mktemp -d)
+        trap 'rm -rf "$goals"' EXIT
+        for crate in calendar terms ledger image head; do
+            say "rt check --generated, in crates/$crate"
+            (cd "crates/$crate" && rt check --generated "$goals/$crate") >"$work/goals.log" 2>&1 || { tail -20 "$work/goals.log"; exit 1; }
+        done
+        python3 examples/layout.py proved "$goals" >"$proved.new" && mv "$proved.new" "$proved" || fail "the proved layout could not be read"
+    fi
     "$work/layout" print >"$work/layout.c.out"
-    if python3 examples/layout.py proved target/goals >"$work/layout.rattle.out" && diff "$work/layout.c.out" "$work/layout.rattle.out"; then
+    if diff "$work/layout.c.out" "$proved"; then
         say "sizes, alignments and places of $(grep -c '^[^.]* size' "$work/layout.c.out") structs with" \
             "$(grep -c 'at=' "$work/layout.c.out") fields are those that Rattle proves; so are the types of the $(grep -c '^[a-z].*);$' include/head.h) functions"
     else
