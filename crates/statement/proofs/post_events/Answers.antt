@@ -1,7 +1,7 @@
 -- `statement::post_events` meets its contract. The loop's invariant: the events left give the same account.
 -- Assumes nothing.
 use native.Mathlib.Omega.{arith}
-use Rattle.statement.proofs.Events.{Going, begins, turns, stops}
+use Rattle.statement.proofs.Events.{begins, turns, stops}
 use Rattle.statement.proofs.post_events.Goals as goal
 
 pub loop-event-preserved : goal.loop-event-preserved
