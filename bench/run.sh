@@ -1,13 +1,13 @@
 #!/bin/bash
 # bench/run.sh [SAMPLES]: what the Rattle head costs, beside a Rust account written for speed (rust/), the slow reference (compare/reference)
 # and a bare copy of the record. Both sides in one run, release builds, the same inputs, medians of SAMPLES (default 201) runs in turn, on
-# one core. Needs target/staticlib/libhead.a and target/bin/prepay (rt staticlib head, rt check prepay), cargo and a C compiler; valgrind
+# one core. Needs crates/head/out/libhead.a and crates/prepay/out/prepay (rt lib head, rt run prepay </dev/null), cargo and a C compiler; valgrind
 # for the counted instructions. HEAD_LIB and HEAD_BIN name other folders. Everything is built in bench/rust/target. About a minute.
 set -euo pipefail
 cd "$(dirname "$0")"
 samples=${1:-201}
-lib=${HEAD_LIB:-../target/staticlib}
-bin=${HEAD_BIN:-../target/bin}
+lib=${HEAD_LIB:-../crates/head/out}
+bin=${HEAD_BIN:-../crates/prepay/out}
 target=$PWD/rust/target
 work=$target/bench
 mkdir -p "$work"

@@ -2,7 +2,7 @@
 # Compares the Rattle library and programs with the reference.
 # Arguments: number of texts and of lists of calls (default 20000 each), seed (default 1); more are passed
 # on to the comparison (`reference/target/release/compare --help` lists them).
-# The library must have been built by `rt staticlib head`, the programs by `rt check prepay summary`;
+# The library must have been built by `rt lib head`, the programs by `rt run prepay </dev/null` and `rt run summary </dev/null`;
 # HEAD_LIBRARY, PREPAY and SUMMARY name others. Programs that are not there are left out.
 set -euo pipefail
 cd "$(dirname "$0")"
@@ -10,13 +10,13 @@ count=${1:-20000}
 seed=${2:-1}
 shift $(($# < 2 ? $# : 2))
 
-library=$(realpath -m "${HEAD_LIBRARY:-../target/staticlib/libhead.a}")
+library=$(realpath -m "${HEAD_LIBRARY:-../crates/head/out/libhead.a}")
 if [[ ! -e $library ]]; then
-    echo "$library is not there: run rt staticlib head first" >&2
+    echo "$library is not there: run rt lib head first" >&2
     exit 2
 fi
 programs=()
-for pair in "--prepay ${PREPAY:-../target/bin/prepay}" "--summary ${SUMMARY:-../target/bin/summary}"; do
+for pair in "--prepay ${PREPAY:-../crates/prepay/out/prepay}" "--summary ${SUMMARY:-../crates/summary/out/summary}"; do
     read -r option program <<<"$pair"
     if [[ -x $program ]]; then
         programs+=("$option" "$program")

@@ -4,7 +4,7 @@
 # GOALS=no leaves out the proved layout (it needs `rt`, and a minute after a change of the crates). Nothing is written outside target/.
 set -euo pipefail
 cd "$(dirname "$0")/.."
-library=target/staticlib/libhead.a
+library=crates/head/out/libhead.a
 work=target/examples
 mkdir -p "$work"
 failed=0
@@ -14,8 +14,8 @@ fail() { say "FAILED: $*"; failed=1; }
 stale() { [[ ! -e $1 ]] || [[ -n $(find crates crates.txt -newer "$1" -type f -print -quit) ]]; }
 
 if stale "$library"; then
-    say "rt staticlib head"
-    rt staticlib head >"$work/staticlib.log" 2>&1 || { tail -20 "$work/staticlib.log"; exit 1; }
+    say "rt lib head"
+    rt lib head >"$work/staticlib.log" 2>&1 || { tail -20 "$work/staticlib.log"; exit 1; }
 fi
 
 python3 examples/layout.py fields >"$work/layout_fields.h"
@@ -46,7 +46,7 @@ fi
 part() { awk -v name="# $1" '/^#/ { on = $0 == name; next } on' "$work/example.out"; }
 sed -n '/^static const char text/,/;$/p' examples/example.c | grep -o '"[^"]*"' | tr -d '"\n' | sed 's/\\n/\n/g' >"$work/text"
 for pair in "prepay:single posts" "prepay:prepay_transcript" "summary:prepay_statement"; do
-    program=target/bin/${pair%%:*} name=${pair#*:}
+    program=crates/${pair%%:*}/out/${pair%%:*} name=${pair#*:}
     if [[ ! -x $program ]]; then
         say "no $program: $name is not held to it"
     elif diff <(part "$name") <("$program" <"$work/text"); then

@@ -1,4 +1,4 @@
-/* The account of a prepay meter head: the C interface of libhead.a (crates/head; `rt staticlib head`).
+/* The account of a prepay meter head: the C interface of libhead.a (crates/head; `rt lib head`).
  *
  * Level 1: an event text to its transcript, and to its month figures; bytes in, bytes out.
  * Level 2: one account, kept by the caller as a `prepay_account` in its own memory, opened, posted to and read.

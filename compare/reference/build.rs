@@ -5,7 +5,7 @@ use std::path::{Path, PathBuf};
 fn main() {
     println!("cargo:rerun-if-env-changed=HEAD_LIBRARY");
     let here = std::env::var("CARGO_MANIFEST_DIR").unwrap();
-    let default = || Path::new(&here).join("../../target/staticlib/libhead.a");
+    let default = || Path::new(&here).join("../../crates/head/out/libhead.a");
     let library = std::env::var("HEAD_LIBRARY").map_or_else(|_| default(), PathBuf::from);
     println!("cargo:rerun-if-changed={}", library.display());
     if let Ok(library) = library.canonicalize() {

@@ -45,6 +45,7 @@ pub struct Opened {
     pub code: u8,
 }
 
+#[tactic(auto, unfolding(crate::specs::Record::fresh))]
 fn empty(t: Terms) -> Account
     ensures { result ≡ fresh t }
 {
@@ -87,6 +88,7 @@ pub fn open(t: Terms) -> Opened
 
 // One event: the account after it and the answer. The cells that the event may change are read and moved. A refusal writes none of them: the
 // account is handed back as it came in; else they are written back.
+#[tactic(auto, unfolding(crate::specs::Step::step_of))]
 pub fn step(a: Account, e: Event) -> Posted
     ensures { result ≡ step_of a e }
 {

@@ -10,8 +10,9 @@ ghost use Rattle.posting.specs.Posting.{PostsRow};
 use account::{Account, Posted};
 use calendar::Date;
 use ledger::Event;
-use libc::{STDIN_FILENO, STDOUT_FILENO};
 use moves::Totals;
+use std::io;
+use std::io::Read;
 use terms::Terms;
 
 // A line's words and numbers. The numbers have the names of the fields of an event, which they are after the word `event`.
@@ -34,58 +35,55 @@ struct Line {
 
 // ---- writing
 
-fn say(n: u64) {
-    io::write_all(STDOUT_FILENO, b" ");
-    io::print_decimal(STDOUT_FILENO, n);
+fn say(rt: &impl Print, n: u64) -> io::Result<()> {
+    print!(rt; " {n}")
 }
 
-fn say_bytes(out: &[u8], length: usize) {
+fn say_bytes(rt: &impl Print, out: &[u8], length: usize) -> io::Result<()> {
     if length > out.len() {
-        return;
+        return Ok(());
     }
-    let first = 0;
-    io::write_all(STDOUT_FILENO, &out[first..length]);
+    rt.write_all(&out[..length])
 }
 
-fn say_signed(n: i64) {
+fn say_signed(rt: &impl Print, n: i64) -> io::Result<()> {
     let mut out = [0u8; 24];
     let length = printing::put_sum(&mut out, 0, b" ", n);
-    say_bytes(&out, length);
+    say_bytes(rt, &out, length)
 }
 
-fn say_sums(s: Totals) {
-    say_signed(readings::balance(s));
-    say(readings::plan(s));
+fn say_sums(rt: &impl Print, s: Totals) -> io::Result<()> {
+    say_signed(rt, readings::balance(s))?;
+    say(rt, readings::plan(s))
 }
 
 // Service and the other readings.
-fn say_readings(s: Totals) {
+fn say_readings(rt: &impl Print, s: Totals) -> io::Result<()> {
     if readings::service(s) {
-        io::write_all(STDOUT_FILENO, b" on");
+        print!(rt; " on")?;
     } else {
-        io::write_all(STDOUT_FILENO, b" off");
+        print!(rt; " off")?;
     }
-    say_sums(s);
-    say_signed(readings::settled(s));
-    say(readings::estimates(s));
+    say_sums(rt, s)?;
+    say_signed(rt, readings::settled(s))?;
+    say(rt, readings::estimates(s))
 }
 
-fn say_code(code: u8) {
-    say(code as u64);
+fn say_code(rt: &impl Print, code: u8) -> io::Result<()> {
+    say(rt, code as u64)
 }
 
-fn say_codes(codes: &[u8]) {
-    let mut i = 0;
-    while i < codes.len() {
-        say_code(codes[i]);
-        i += 1;
+fn say_codes(rt: &impl Print, codes: &[u8]) -> io::Result<()> {
+    for code in codes {
+        say_code(rt, *code)?;
     }
+    Ok(())
 }
 
 // How many payments and events were accepted.
-fn say_counts(s: Totals) {
-    say(s.count as u64);
-    say(s.events as u64);
+fn say_counts(rt: &impl Print, s: Totals) -> io::Result<()> {
+    say(rt, s.count as u64)?;
+    say(rt, s.events as u64)
 }
 
 // ---- totals
@@ -132,11 +130,11 @@ fn same_counts(s: Totals, t: Totals) -> bool {
     (s.count == t.count) & (s.events == t.events) & (s.last == t.last) & (s.on == t.on)
 }
 
-fn compare(s: Totals, t: Totals) {
+fn compare(rt: &impl Print, s: Totals, t: Totals) -> io::Result<()> {
     if same_sums(s, t) & same_counts(s, t) {
-        return;
+        return Ok(());
     }
-    io::write_all(STDOUT_FILENO, b" with other totals");
+    print!(rt; " with other totals")
 }
 
 // ---- lines
@@ -356,37 +354,43 @@ fn repeated(a: Account, e: Event, n: u32, each: bool) -> Posted {
 }
 
 // One event is held to its value too, and to the totals after it.
-fn say_answer(l: Line, code: u8, value: u64, before: Totals, after: Totals) {
-    say(code as u64);
+fn say_answer(
+    rt: &impl Print,
+    l: Line,
+    code: u8,
+    value: u64,
+    before: Totals,
+    after: Totals,
+) -> io::Result<()> {
+    say(rt, code as u64)?;
     if l.way != 0 {
-        say_sums(after);
-        return;
+        return say_sums(rt, after);
     }
-    say(value);
-    say_sums(after);
-    compare(after, asked(code, event(l), before, after));
+    say(rt, value)?;
+    say_sums(rt, after)?;
+    compare(rt, after, asked(code, event(l), before, after))
 }
 
-fn posted(a: Account, l: Line, is_case: bool) -> Account {
+fn posted(rt: &impl Print, a: Account, l: Line, is_case: bool) -> io::Result<Account> {
     // 0x656163 is `each`
     let p = repeated(a, event(l), l.times, l.way == 0x656163);
     let after = p.account;
     if is_case {
-        say_answer(l, p.code, p.value, a.totals, after.totals);
+        say_answer(rt, l, p.code, p.value, a.totals, after.totals)?;
     }
-    after
+    Ok(after)
 }
 
 // A fresh account has every total 0, and service off.
-fn opened(l: Line, is_case: bool) -> Account {
+fn opened(rt: &impl Print, l: Line, is_case: bool) -> io::Result<Account> {
     let o = account::open(terms(l));
     let a = o.account;
     if !is_case {
-        return a;
+        return Ok(a);
     }
-    say(o.code as u64);
-    compare(a.totals, none());
-    a
+    say(rt, o.code as u64)?;
+    compare(rt, a.totals, none())?;
+    Ok(a)
 }
 
 // ---- rows
@@ -433,51 +437,50 @@ fn row_done(a: Account, events: u32, codes: &mut [u8]) -> Done {
     row_of_five(a, five(), codes)
 }
 
-fn row(a: Account, events: u32, codes: &mut [u8]) -> Account {
+fn row(rt: &impl Print, a: Account, events: u32, codes: &mut [u8]) -> io::Result<Account> {
     let d = row_done(a, events, codes);
     let after = d.account;
-    say_code(d.answer);
-    say_codes(codes);
-    say_counts(after.totals);
-    say_readings(after.totals);
-    after
+    say_code(rt, d.answer)?;
+    say_codes(rt, codes)?;
+    say_counts(rt, after.totals)?;
+    say_readings(rt, after.totals)?;
+    Ok(after)
 }
 
 // A row of five events or of none, and a buffer of so many bytes, 8 at most, each of them 7.
-fn row_posted(a: Account, events: u32, bytes: u32) -> Account {
+fn row_posted(rt: &impl Print, a: Account, events: u32, bytes: u32) -> io::Result<Account> {
     let mut codes = [7; 8];
     if bytes > 8 {
-        return a;
+        return Ok(a);
     }
-    let first = 0;
     let end = bytes as usize;
-    row(a, events, &mut codes[first..end])
+    row(rt, a, events, &mut codes[..end])
 }
 
 // ---- the text
 
 // A part of the text: a line, or a case up to its colon. A remark and a heading have no word.
-fn one(a: Account, part: &[u8], is_case: bool) -> Account {
-    io::write_all(STDOUT_FILENO, part);
+fn one(rt: &impl Print, a: Account, part: &[u8], is_case: bool) -> io::Result<Account> {
+    rt.write_all(part)?;
     let l = read(part);
     let word = l.word;
     match word {
-        0 => a,
+        0 => Ok(a),
         // terms
-        0x746572 => opened(l, is_case),
+        0x746572 => opened(rt, l, is_case),
         // row
-        0x726f77 => row_posted(a, l.sort, l.day),
+        0x726f77 => row_posted(rt, a, l.sort, l.day),
         // totals
         0x746f74 => {
-            say_readings(a.totals);
-            a
+            say_readings(rt, a.totals)?;
+            Ok(a)
         }
-        _ => posted(a, l, is_case),
+        _ => posted(rt, a, l, is_case),
     }
 }
 
-fn parts(text: &[u8]) {
-    let mut a = opened(blank(), false);
+fn parts(rt: &impl Print, text: &[u8]) -> io::Result<()> {
+    let mut a = opened(rt, blank(), false)?;
     let mut start = 0;
     let mut i = 0;
     while i < text.len() {
@@ -486,13 +489,15 @@ fn parts(text: &[u8]) {
         if (byte != b'\n') & (byte != b':') {
             continue;
         }
-        a = one(a, &text[start..i], byte == b':');
+        a = one(rt, a, &text[start..i], byte == b':')?;
         start = i;
     }
+    Ok(())
 }
 
-fn main() {
-    let mut text = io::large_buffer();
-    let count = io::read_full(STDIN_FILENO, &mut text);
-    parts(&text[..count]);
+// The cases are the first 65,536 bytes of standard input.
+fn main(rt: HostRuntime) -> io::Result<()> {
+    let mut text = Vec::new(rt.alloc());
+    rt.reader().take(65536).read_to_end(&mut text)?;
+    parts(&rt, &text)
 }

@@ -3,28 +3,27 @@
 #![tactic(auto)]
 
 use calendar::{Date, Dated, Numbered};
-use libc::{STDIN_FILENO, STDOUT_FILENO};
+use std::io;
+use std::io::{BufWriter, Read, Write};
 
-fn say(n: u64) {
-    io::write_all(STDOUT_FILENO, b" ");
-    io::print_decimal(STDOUT_FILENO, n);
+fn say(out: &mut impl Write, n: u64) -> io::Result<()> {
+    write!(out, " {n}")
 }
 
-fn say_whether(yes: bool) {
-    if yes {
-        say(1);
-    } else {
-        say(0);
-    }
+fn say_whether(out: &mut impl Write, yes: bool) -> io::Result<()> {
+    if yes { say(out, 1) } else { say(out, 0) }
 }
 
 // Year, month and day as one number.
-fn say_date(d: Date) {
-    say(d.year as u64 * 10000 + d.month as u64 * 100 + d.day as u64);
+fn say_date(out: &mut impl Write, d: Date) -> io::Result<()> {
+    say(
+        out,
+        d.year as u64 * 10000 + d.month as u64 * 100 + d.day as u64,
+    )
 }
 
-fn say_outside() {
-    io::write_all(STDOUT_FILENO, b" outside");
+fn say_outside(out: &mut impl Write) -> io::Result<()> {
+    out.write_all(b" outside")
 }
 
 // The date that such a number is, or is not.
@@ -36,42 +35,42 @@ fn date(n: u32) -> Date {
     }
 }
 
-fn exists(d: Date) {
-    say_whether(calendar::exists(d.year, d.month, d.day));
-    say_whether(calendar::can_open(d));
+fn exists(out: &mut impl Write, d: Date) -> io::Result<()> {
+    say_whether(out, calendar::exists(d.year, d.month, d.day))?;
+    say_whether(out, calendar::can_open(d))
 }
 
-fn day(opened: Date, k: u32) {
+fn day(out: &mut impl Write, opened: Date, k: u32) -> io::Result<()> {
     match calendar::date_of(opened, k) {
-        Dated::On(d) => say_date(d),
-        Dated::Outside => say_outside(),
+        Dated::On(d) => say_date(out, d)?,
+        Dated::Outside => say_outside(out)?,
     }
-    say(calendar::weekday_of(opened, k) as u64);
-    say(calendar::month_of(opened, k) as u64);
+    say(out, calendar::weekday_of(opened, k) as u64)?;
+    say(out, calendar::month_of(opened, k) as u64)
 }
 
-fn number(opened: Date, d: Date) {
+fn number(out: &mut impl Write, opened: Date, d: Date) -> io::Result<()> {
     match calendar::day_of(opened, d) {
-        Numbered::Day(k) => say(k as u64),
-        Numbered::Outside => say_outside(),
+        Numbered::Day(k) => say(out, k as u64),
+        Numbered::Outside => say_outside(out),
     }
 }
 
-fn month(opened: Date, m: u32) {
+fn month(out: &mut impl Write, opened: Date, m: u32) -> io::Result<()> {
     let days = calendar::days_of(opened, m);
-    say(days.from as u64);
-    say(days.to as u64);
+    say(out, days.from as u64)?;
+    say(out, days.to as u64)
 }
 
-fn all(opened: Date, k: u32, d: Date, m: u32) {
-    exists(opened);
-    exists(d);
-    day(opened, k);
-    number(opened, d);
-    month(opened, m);
-    say_date(d.next());
-    say(d.weekday() as u64);
-    say(d.month_from(opened));
+fn all(out: &mut impl Write, opened: Date, k: u32, d: Date, m: u32) -> io::Result<()> {
+    exists(out, opened)?;
+    exists(out, d)?;
+    day(out, opened, k)?;
+    number(out, opened, d)?;
+    month(out, opened, m)?;
+    say_date(out, d.next())?;
+    say(out, d.weekday() as u64)?;
+    say(out, d.month_from(opened))
 }
 
 // The number with one digit more, of nine at most; another byte, as the minus of a date, is passed over.
@@ -94,43 +93,42 @@ fn place(at: usize, byte: u8) -> usize {
 fn numbers(line: &[u8]) -> [u32; 5] {
     let mut n = [0u32; 5];
     let mut at = 0;
-    let mut i = 0;
-    while i < line.len() {
-        at = place(at, line[i]);
+    for byte in line {
+        at = place(at, *byte);
         let k = at % 5;
-        n[k] = with_digit(n[k], line[i]);
-        i += 1;
+        n[k] = with_digit(n[k], *byte);
     }
     n
 }
 
-fn ask(word: u8, n: [u32; 5]) {
+fn ask(out: &mut impl Write, word: u8, n: [u32; 5]) -> io::Result<()> {
     let opened = date(n[1]);
     match word {
-        b'e' => exists(opened),
-        b'd' => day(opened, n[2]),
-        b'n' => number(opened, date(n[2])),
-        b'm' => month(opened, n[2]),
-        _ => all(opened, n[2], date(n[3]), n[4]),
+        b'e' => exists(out, opened),
+        b'd' => day(out, opened, n[2]),
+        b'n' => number(out, opened, date(n[2])),
+        b'm' => month(out, opened, n[2]),
+        _ => all(out, opened, n[2], date(n[3]), n[4]),
     }
 }
 
 // The question, and the answers to it. A line that starts with `#` is a remark.
-fn one(line: &[u8]) {
+fn one(out: &mut impl Write, line: &[u8]) -> io::Result<()> {
     if line.len() == 0 {
-        return;
+        return Ok(());
     }
     let word = line[0];
     if word == b'#' {
-        return;
+        return Ok(());
     }
-    io::write_all(STDOUT_FILENO, line);
-    io::write_all(STDOUT_FILENO, b":");
-    ask(word, numbers(line));
-    io::write_all(STDOUT_FILENO, b"\n");
+    out.write_all(line)?;
+    out.write_all(b":")?;
+    ask(out, word, numbers(line))?;
+    out.write_all(b"\n")
 }
 
-fn lines(text: &[u8]) {
+// The questions of a text, each up to its line end.
+fn lines(out: &mut impl Write, text: &[u8]) -> io::Result<()> {
     let mut start = 0;
     let mut i = 0;
     while i < text.len() {
@@ -138,14 +136,17 @@ fn lines(text: &[u8]) {
             i += 1;
             continue;
         }
-        one(&text[start..i]);
+        one(out, &text[start..i])?;
         i += 1;
         start = i;
     }
+    Ok(())
 }
 
-fn main() {
-    let mut text = io::large_buffer();
-    let count = io::read_full(STDIN_FILENO, &mut text);
-    lines(&text[..count]);
+fn main(rt: HostRuntime) -> io::Result<()> {
+    let mut text = Vec::new(rt.alloc());
+    rt.reader().read_to_end(&mut text)?;
+    let mut out = BufWriter::new(rt.alloc(), io::writer(&rt))?;
+    lines(&mut out, &text)?;
+    out.flush()
 }

@@ -14,7 +14,8 @@ use types.Logic.{Logic}
 use contract.Monad.{Fun, fact, fact_i, fact_mono, fact_use}
 use contract.Lifetimes.{Lfts}
 use lib.IntN.{ℤ}
-use denote.Ref.{Bor}
+use denote.Bor.{Bor}
+use denote.MutBor.{MutBor}
 use denote.Triple.Clauses.{at_exit}
 use Rattle.terms.specs.declared.Terms.{Terms}
 use Rattle.ledger.specs.declared.Event.{Event}
@@ -43,11 +44,11 @@ module _ {M : Type 1} {𝓤 : Ura M} (𝓛 : Logic 𝓤) (at_mem : Memory → SP
   -- ---- what the compiled contracts say: of what a call leaves and answers
 
   -- `post`, of a reference to the account, at whatever lifetime: of the account b that it leaves and the answer n
-  abbrev PostSays : Lfts 1 → Bor Account → Event → Account → Answer → SProp 𝓤
+  abbrev PostSays : Lfts 1 → MutBor Account → Event → Account → Answer → SProp 𝓤
   PostSays κs a e b n = (post.clauses 𝓛 at_mem run κs (a, (e, tt))).ensures tt n (at_exit post.ended κs (a, (e, tt)) (b, (tt, tt)))
 
   -- `post_row`, of references to the account, the row and the buffer
-  abbrev RowSays : Lfts 3 → Bor Account → Bor (List Event) → Bor (List ℕ) → Account → List ℕ → ℕ → SProp 𝓤
+  abbrev RowSays : Lfts 3 → MutBor Account → Bor (List Event) → MutBor (List ℕ) → Account → List ℕ → ℕ → SProp 𝓤
   RowSays κs a es buffer b bytes n = (row-call.clauses 𝓛 at_mem run κs (a, (es, (buffer, tt)))).ensures tt n (at_exit row-call.ended κs (a, (es, (buffer, tt))) (b, (tt, (bytes, tt))))
 
   abbrev OpenSays : Terms → Opened → SProp 𝓤
@@ -72,10 +73,10 @@ module _ {M : Type 1} {𝓤 : Ura M} (𝓛 : Logic 𝓤) (at_mem : Memory → SP
 
   -- ---- they ask nothing of a call: each `requires` is had for nothing
 
-  post-asks : (κs : Lfts 1) (a : Bor Account) (e : Event) → ent 𝓤 (emp 𝓤) ((post.clauses 𝓛 at_mem run κs (a, (e, tt))).requires tt)
+  post-asks : (κs : Lfts 1) (a : MutBor Account) (e : Event) → ent 𝓤 (emp 𝓤) ((post.clauses 𝓛 at_mem run κs (a, (e, tt))).requires tt)
   post-asks κs a e = id⊢ 𝓤 _
 
-  row-asks : (κs : Lfts 3) (a : Bor Account) (es : Bor (List Event)) (buffer : Bor (List ℕ)) → ent 𝓤 (emp 𝓤) ((row-call.clauses 𝓛 at_mem run κs (a, (es, (buffer, tt)))).requires tt)
+  row-asks : (κs : Lfts 3) (a : MutBor Account) (es : Bor (List Event)) (buffer : MutBor (List ℕ)) → ent 𝓤 (emp 𝓤) ((row-call.clauses 𝓛 at_mem run κs (a, (es, (buffer, tt)))).requires tt)
   row-asks κs a es buffer = id⊢ 𝓤 _
 
   open-asks : (t : Terms) → ent 𝓤 (emp 𝓤) ((open-call.clauses 𝓛 at_mem run tt (t, tt)).requires tt)
@@ -99,10 +100,10 @@ module _ {M : Type 1} {𝓤 : Ura M} (𝓛 : Logic 𝓤) (at_mem : Memory → SP
 
   -- ---- each is the step that the relation takes
 
-  post-promises : (κs : Lfts 1) (a : Bor Account) (e : Event) (b : Account) (n : Answer) → ent 𝓤 (PostSays κs a e b n) (fact 𝓤 (Posts a.now e b n))
+  post-promises : (κs : Lfts 1) (a : MutBor Account) (e : Event) (b : Account) (n : Answer) → ent 𝓤 (PostSays κs a e b n) (fact 𝓤 (Posts a.now e b n))
   post-promises κs a e b n = id⊢ 𝓤 _
 
-  row-promises : (κs : Lfts 3) (a : Bor Account) (es : Bor (List Event)) (buffer : Bor (List ℕ)) (b : Account) (bytes : List ℕ) (n : ℕ)
+  row-promises : (κs : Lfts 3) (a : MutBor Account) (es : Bor (List Event)) (buffer : MutBor (List ℕ)) (b : Account) (bytes : List ℕ) (n : ℕ)
       → ent 𝓤 (RowSays κs a es buffer b bytes n) (fact 𝓤 (PostsRow a.now es.now buffer.now b bytes n))
   row-promises κs a es buffer b bytes n = id⊢ 𝓤 _
 
@@ -134,10 +135,10 @@ module _ {M : Type 1} {𝓤 : Ura M} (𝓛 : Logic 𝓤) (at_mem : Memory → SP
   -- the call that gets account a leaves account b and hands back r
   abbrev CallSays : Account → Call → Back → Account → SProp 𝓤
   CallSays a (single e) r b =
-      ex 𝓤 (λ (κs : Lfts 1). ex 𝓤 (λ (x : Bor Account). ex 𝓤 (λ (n : Answer).
+      ex 𝓤 (λ (κs : Lfts 1). ex 𝓤 (λ (x : MutBor Account). ex 𝓤 (λ (n : Answer).
       sep 𝓤 (fact 𝓤 ((x.now ≡ a) × (r ≡ answered n))) (PostSays κs x e b n))))
   CallSays a (row es buffer) r b =
-      ex 𝓤 (λ (κs : Lfts 3). ex 𝓤 (λ (x : Bor Account). ex 𝓤 (λ (y : Bor (List Event)). ex 𝓤 (λ (z : Bor (List ℕ)). ex 𝓤 (λ (n : ℕ). ex 𝓤 (λ (bytes : List ℕ).
+      ex 𝓤 (λ (κs : Lfts 3). ex 𝓤 (λ (x : MutBor Account). ex 𝓤 (λ (y : Bor (List Event)). ex 𝓤 (λ (z : MutBor (List ℕ)). ex 𝓤 (λ (n : ℕ). ex 𝓤 (λ (bytes : List ℕ).
       sep 𝓤 (fact 𝓤 ((x.now ≡ a) × (y.now ≡ es) × (z.now ≡ buffer) × (r ≡ written n bytes))) (RowSays κs x y z b bytes n)))))))
 
   -- each call gets the account as the call before left it

@@ -14,7 +14,7 @@ use Rattle.terms.specs.declared.Terms.{Terms}
 use Rattle.terms.specs.Terms.{max_share, valid_terms}
 use Rattle.ledger.specs.declared.Event.{Event}
 use Rattle.ledger.specs.Event.{is_pay, is_reverse, is_credit, is_charge, is_estimate, is_read, is_plan, is_disconnect, is_connect}
-use Rattle.ledger.specs.Entries.{usage_cost, Entry, Entries, any, count, sum, sum_of, amount_of, find, or_zero, paid_amount, paid_part, last_day, payment_count, has_number, payment, reversed, price_on, UsageDay, read_on, estimate_on, wh_on, usage_day, is_blank, is_metered, estimate_cost_of}
+use Rattle.ledger.specs.Entries.{usage_cost, Entry, Entries, any, count, sum, sum_of, amount_of, find, or_zero, paid_amount, paid_part, last_day, payment_count, has_number, payment, reversed, price_on, UsageDay, read_on, estimate_on, wh_on, usage_day, is_blank, is_metered, estimate_cost_of, is_kept}
 use Rattle.ledger.specs.Sums.{kept_total, credit_total, charge_total, read_cost, settled, standing_cost}
 use Rattle.ledger.specs.Rules.{Ledger, may_defer, refusals}
 use Rattle.ledger.specs.Ledger.{opening, Effect, plan_part, pay_effect, reverse_effect, balance_effect, service_effect, estimate_effect, read_effect, deferred, plan_effect, effect_of, joined, accepts, ledger_step}
@@ -190,6 +190,12 @@ module _ (t : Terms) (l : Ledger) (e : Event) (p : ℕ) (s : Invariant t l) (a :
   unreversed : reversed l.list (payment_count l.list) ≡ false
   unreversed = decide (reversed l.list (payment_count l.list)) (λ r. absurd (omega (arith, s.numbers _ r))) (λ f. f)
 
+  -- what e leaves of the payments kept before it
+  kept-before : (v : Bool) → is_reverse e ≡ v → sum_of (is_kept (entry_of e p ∷ l.list)) amount_of l.list
+      ≡ sum_of (λ x b. is_pay x.event && not (v && eqb e.number (payment_count b) || reversed l.list (payment_count b))) amount_of l.list
+  unfolding reversed any
+  kept-before v r = ap (λ (w : Bool). sum_of (λ x b. is_pay x.event && not (w && eqb e.number (payment_count b) || reversed l.list (payment_count b))) amount_of l.list) r
+
   kept_then : kept_total (entry_of e p ∷ l.list) + cond (is_reverse e) (paid_amount l.list e.number) 0
       ≡ kept_total l.list + cond (is_pay e) e.amount 0
   unfolding kept_total sum reversed any payment refusals
@@ -198,12 +204,13 @@ module _ (t : Terms) (l : Ledger) (e : Event) (p : ℕ) (s : Invariant t l) (a :
       let f : reversed l.list e.number ≡ false = (neither (leb (payment_count l.list) e.number) (reversed l.list e.number) (simp r at (a.rule 6))).1 in
       simp (r, i) (omega (
         arith,
+        kept-before true r,
         take_out (λ y. is_pay y.event) (λ y b. payment_count b) (λ y. y.event.amount) (λ n. reversed l.list n) e.number f l.list,
         one-weighs (has_number e.number) amount_of l.list (given-once e.number l.list),
       )))
       (λ r. decide (is_pay e)
-      (λ i. simp (r, i, unreversed) (omega arith))
-      (λ i. simp (r, i) (omega arith)))
+      (λ i. simp (r, i, unreversed) (omega (arith, kept-before false r)))
+      (λ i. simp (r, i) (omega (arith, kept-before false r))))
 
   net : let k = entry_of e p ∷ l.list in
       kept_total k + credit_total k + (charge_total l.list + read_cost t l.list + standing_cost t l.list) + outflow t l e

@@ -19,7 +19,7 @@ use Rattle.months.specs.Summary.{in_month_of, charges_of, summary_by, summary_of
 use Rattle.months.specs.Work.{span, paid_by, used_by, figures_of}
 use Rattle.months.proofs.Sums.{any_none, any_some}
 
-inside : (from to k : ℕ) → from ≤ k → k < to → span from to k ≡ true
+pub inside : (from to k : ℕ) → from ≤ k → k < to → span from to k ≡ true
 inside from to k h g = simp (le-leb from k h, lt-ltb k to g)
 
 outside : (from to k : ℕ) → (from ≤ k → k < to → ⊥) → span from to k ≡ false

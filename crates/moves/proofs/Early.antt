@@ -180,3 +180,22 @@ mark-limits e s h =
       from = from.0;
       to = leb-true e.to 399 from.1;
     }
+
+-- ---- what the checks of every event leave of one sort, for the proofs of its function
+
+pub record ChargeBounds (t : Terms) (e : Event) : Type 0 where
+  pub month : month_on t.opened e.day ≤ 14
+  pub least : 1 ≤ e.kind
+  pub most : e.kind ≤ 5
+
+pub charge_bounds : (t : Terms) (s : Totals) (e : Event) → early_code t s e ≡ 0 → e.sort ≡ 4 → ChargeBounds t e
+charge_bounds t s e h k =
+    let a = early t s e h in
+    let f = charge-limits e k a.limits in
+    record { month = month-on t s e a; least = f.kind.least; most = f.kind.most }
+
+pub estimate_cost : (t : Terms) (s : Totals) (e : Event) → early_code t s e ≡ 0 → e.sort ≡ 5 → cost_of e.wh t.price ≤ 9999899
+estimate_cost t s e h k = cost-on t s e (early t s e h) (inl k)
+
+pub read_cost : (t : Terms) (s : Totals) (e : Event) → early_code t s e ≡ 0 → e.sort ≡ 6 → cost_of e.wh t.price ≤ 9999899
+read_cost t s e h k = cost-on t s e (early t s e h) (inr k)

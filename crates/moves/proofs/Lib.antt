@@ -1,4 +1,5 @@
 pub mod Arms
 pub mod Cost
 pub mod Early
+pub mod Places
 pub mod Ways

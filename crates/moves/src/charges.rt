@@ -6,6 +6,7 @@ use super::{Charges, MAX_TOTAL, Move, accept, refuse};
 use ledger::{CHARGE_KIND_COUNT, Event};
 use terms::Terms;
 
+#[tactic(auto, using(crate::proofs::Early::early, crate::proofs::Early::charge_bounds), unfolding(crate::specs::Moves::charge_of))]
 pub(crate) fn charge(t: Terms, mut m: Move, charges: &Charges, e: Event) -> Move
     requires { (early_code t m.totals e ≡ 0) × (e.sort ≡ 4) }
     ensures { result ≡ charge_of t m charges.now e }

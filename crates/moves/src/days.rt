@@ -7,6 +7,7 @@ use super::{Day, Move, Usage, accept, refuse};
 use ledger::Event;
 use terms::Terms;
 
+#[tactic(auto, using(crate::proofs::Early::early, crate::proofs::Early::estimate_cost), unfolding(crate::specs::Moves::estimate_of, crate::specs::Moves::estimated_of))]
 pub(crate) fn estimate(t: Terms, mut m: Move, e: Event) -> Move
     requires { (early_code t m.totals e ≡ 0) × (e.sort ≡ 5) }
     ensures { result ≡ estimate_of t m e }
@@ -33,6 +34,7 @@ pub(crate) fn estimate(t: Terms, mut m: Move, e: Event) -> Move
     accept(m, n, e.day, cost)
 }
 
+#[tactic(auto, using(crate::proofs::Early::early, crate::proofs::Early::read_cost), unfolding(crate::specs::Moves::read_of, crate::specs::Moves::metered_of))]
 pub(crate) fn read(t: Terms, mut m: Move, e: Event) -> Move
     requires { (early_code t m.totals e ≡ 0) × (e.sort ≡ 6) }
     ensures { result ≡ read_of t m e }

@@ -8,6 +8,7 @@ use ledger::{Event, MAX_EVENTS};
 use terms::Terms;
 
 // 1 where the record is no account; 2, 3 or 4; else 0.
+#[tactic(auto, unfolding(crate::specs::Moves::early_code))]
 pub(crate) fn early(t: Terms, s: Totals, e: Event) -> u8
     ensures { result ≡ early_code t s e }
 {

@@ -88,6 +88,7 @@ pub type Charges = [u64; CHARGE_PLACES];
 pub const MAX_TOTAL: u64 = 1152921504606846976;
 
 // Whether the terms are within their limits and the totals within any account's reach, so that no sum of a step wraps.
+#[tactic(auto, unfolding(crate::specs::Moves::is_account))]
 pub fn is_account(t: Terms, s: Totals) -> bool
     ensures { result ≡ is_account t s }
 {
@@ -131,6 +132,7 @@ fn accept(mut m: Move, mut s: Totals, day: u32, value: u64) -> Move
 }
 
 // The move of an event that passed the checks of every event, by its sort.
+#[tactic(auto, using(crate::proofs::Early::early), unfolding(crate::specs::Moves::by_sort, crate::specs::Moves::credit_of, crate::specs::Moves::mark_of, crate::specs::Moves::warn_of))]
 fn by_sort<'a>(
     t: Terms,
     m: Move,
@@ -162,6 +164,7 @@ fn by_sort<'a>(
 // The move of an event, of the totals, the payment at its number, its usage day, and the charges, marks and warnings as they are.
 // A refusal moves nothing. A number past the payments, or a day past the account's, is looked at by its remainder: a sort that names the
 // field refuses it.
+#[tactic(auto, using(crate::proofs::Places::is_move), unfolding(crate::specs::Moves::cells_before, crate::specs::Moves::move_of))]
 pub fn move_of<'a>(
     t: Terms,
     s: Totals,

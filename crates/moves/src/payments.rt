@@ -31,6 +31,7 @@ pub(crate) fn less(a: u64, b: u64) -> u64
     a - b
 }
 
+#[tactic(auto, using(crate::proofs::Early::early), unfolding(crate::specs::Moves::pay_of))]
 pub(crate) fn pay(t: Terms, mut m: Move, e: Event) -> Move
     requires { (early_code t m.totals e ≡ 0) × (e.sort ≡ 1) }
     ensures { result ≡ pay_of t m e }
@@ -57,6 +58,7 @@ pub(crate) fn pay(t: Terms, mut m: Move, e: Event) -> Move
     accept(m, n, e.day, number as u64)
 }
 
+#[tactic(auto, using(crate::proofs::Early::early), unfolding(crate::specs::Moves::reverse_of))]
 pub(crate) fn reverse(mut m: Move, e: Event) -> Move
     requires { (m.totals.events < max_events) × (m.totals.debit ≤ max_total) × (m.totals.plan ≤ max_total) }
     ensures { (t : Terms) → result ≡ reverse_of t m e }

@@ -44,6 +44,7 @@ fn allowed(t: Terms, s: Totals, marks: &DayBytes, e: Event) -> bool
     marks::weather_near(marks, calendar::weekday_of(opened, e.day), e.day)
 }
 
+#[tactic(auto, using(crate::proofs::Early::early), unfolding(crate::specs::Moves::plan_of, crate::specs::Moves::deferring_of))]
 pub(crate) fn plan(t: Terms, m: Move, marks: &DayBytes, e: Event) -> Move
     requires { (early_code t m.totals e ≡ 0) × (e.sort ≡ 9) }
     ensures { result ≡ plan_of t m marks.now e }
@@ -72,6 +73,7 @@ fn served(m: Move, day: u32, on: bool) -> Move
     accept(m, n, day, 0)
 }
 
+#[tactic(auto, using(crate::proofs::Early::early), unfolding(crate::specs::Moves::disconnect_of, crate::specs::Moves::served_of))]
 pub(crate) fn disconnect(t: Terms, m: Move, marks: &DayBytes, warned: &DayBytes, e: Event) -> Move
     requires { (early_code t m.totals e ≡ 0) × (e.sort ≡ 10) }
     ensures { result ≡ disconnect_of t m marks.now warned.now e }
@@ -95,6 +97,7 @@ pub(crate) fn disconnect(t: Terms, m: Move, marks: &DayBytes, warned: &DayBytes,
     served(m, e.day, false)
 }
 
+#[tactic(auto, using(crate::proofs::Early::early), unfolding(crate::specs::Moves::connect_of, crate::specs::Moves::served_of))]
 pub(crate) fn connect(t: Terms, m: Move, e: Event) -> Move
     requires { (early_code t m.totals e ≡ 0) × (e.sort ≡ 11) }
     ensures { result ≡ connect_of t m e }

@@ -6,8 +6,8 @@ use Prim.Native.Nat.{ℕ, ◌+◌, ◌≤◌, ◌<◌}
 use native.Mathlib.Nat.{zero-add}
 use native.Mathlib.Omega.{arith}
 use lib.ListN.{length, drop, length-append}
-use lib.Dec.{ltb}
-use borrow.Author.Tests.{lt-ltb, le-ltb}
+use lib.Dec.{ltb, leb}
+use borrow.Author.Tests.{lt-ltb, le-ltb, leb-true}
 use Rattle.printing.specs.Printing.{over, Puts, Wrote, Whole}
 use Rattle.printing.proofs.Laws.{length_over, over-over, put-fits, past_fits, puts-all}
 
@@ -39,6 +39,13 @@ module _ {b : List ℕ} {at : ℕ} (x y : List ℕ) {after : List ℕ} {r : ℕ}
   puts_then {last} {q} e n =
       let whole : Wrote b at (x ++ y) last q = wrote_then word (record { buffer = e; next = n; room = room_after }) in
       puts-all b at (x ++ y) last q h whole.buffer whole.next
+
+-- whether a word and the bytes after it fit: what `room` answers for their lengths
+pub tested : (b : List ℕ) (at : ℕ) (x y : List ℕ) {count : ℕ} {r : Bool} → r ≡ leb (at + count) (length b) → count ≡ length x + length y → r ≡ leb (at + length (x ++ y)) (length b)
+tested b at x y e n = e ∙ ap (λ (k : ℕ). leb (at + k) (length b)) (omega (arith, n, length-append x y))
+
+pub fit : (b : List ℕ) (at : ℕ) (x y : List ℕ) {count : ℕ} {r : Bool} → r ≡ leb (at + count) (length b) → count ≡ length x + length y → r ≡ true → at + length (x ++ y) ≤ length b
+fit b at x y e n t = leb-true _ _ (sym (tested b at x y e n) ∙ t)
 
 -- ---- the last word, the last field, and a field and what follows it: whole, and how far they reach, with `most` digits at most and `rest`
 -- bytes at most after them

@@ -1,14 +1,17 @@
 // `summary`: an event text on standard input, a line for each month of the account on standard output.
-// It uses the event text's limit, the statement, and the kit's reading and writing.
-// A text that is too long fills the buffer, which is one byte longer.
+// It uses the event text's limit and the statement. A read or a write that fails ends the program with its error.
+// Of a text that is too long it reads one byte more than the limit.
 #![tactic(auto)]
 
-use libc::{STDIN_FILENO, STDOUT_FILENO};
+use std::io;
+use std::io::{Read, Write};
 
-fn main() {
-    let mut text = [0u8; text::MAX_TEXT + 1];
-    let count = io::read_full(STDIN_FILENO, &mut text);
+fn main(rt: HostRuntime) -> io::Result<()> {
+    let mut text = Vec::new(rt.alloc());
+    rt.reader()
+        .take(text::MAX_TEXT as u64 + 1)
+        .read_to_end(&mut text)?;
     let mut out = [0u8; statement::STATEMENT_ROOM];
-    let length = statement::statement(&text[..count], &mut out);
-    io::write_all(STDOUT_FILENO, &out[..length]);
+    let length = statement::statement(&text, &mut out);
+    io::writer(&rt).write_all(&out[..length])
 }

@@ -1,5 +1,4 @@
 use borrow.Author.Tests.{le-leb, lt-leb}
-use borrow.Author.Rules.{rules}
 use Rattle.calendar.specs.Calendar.{opens}
 use Rattle.calendar.proofs.can_open.Goals as goal
 

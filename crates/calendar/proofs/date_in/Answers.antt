@@ -1,12 +1,11 @@
 use mathlib.Core.Path.{◌≡◌}
-use mathlib.Core.Logic.{inl, inr}
-use Prim.Native.Nat.{◌+◌, ◌/◌, ◌<◌}
+use Prim.Native.Nat.{◌+◌, ◌/◌}
 use native.Mathlib.Omega.{arith}
-use borrow.Author.Rules.{rules}
 use Rattle.calendar.specs.Calendar.{leap_year}
 use Rattle.calendar.specs.Work.{days_before}
 use Rattle.calendar.proofs.Years.{in-year, guess, guess-next, guess-last}
 use Rattle.calendar.proofs.date_in.Goals as goal
+use Rattle.calendar.proofs.date_in.Goals.{then-m-lt12+else-next-left, else-m-lt12}
 
 pub returns-then-next-left : goal.returns-then-next-left
 returns-then-next-left c =
@@ -28,6 +27,6 @@ returns c =
     let a = c.args in
     let g = guess a.year a.left c.requires in
     rw (rw c.leap-l.ensures at c.days_before.ensures) (in-year a.year a.left (a.left / 32 + 1) g.month g.begun (elim c.if-m-lt12.branch [
-  | inl w ↦ rw (w.1.ensures, c.leap-l.ensures) at w.2.left
-  | inr w ↦ guess-last c.args.year c.args.left c.requires w.left
-]))
+      | then-m-lt12+else-next-left w ↦ rw (w.days_before-next.ensures, c.leap-l.ensures) at w.if-next-left.false
+      | else-m-lt12 w ↦ guess-last c.args.year c.args.left c.requires w.if-m-lt12.false
+    ]))

@@ -3,17 +3,16 @@ use mathlib.Core.Bool.{true, false≢true}
 use Prim.Native.Nat.{ℕ, ◌+◌, ◌-◌}
 use borrow.Author.Tests.{not-true, not-false, le-leb}
 use native.Mathlib.Omega.{arith}
-use borrow.Author.Rules.{rules}
-use Rattle.calendar.specs.Calendar.{opens, is_in_reach, is_day, date_on, days_after}
+use Rattle.calendar.specs.Calendar.{is_in_reach, is_day, date_on, days_after}
+use Rattle.calendar.specs.declared.Date.{Date}
 use Rattle.calendar.proofs.Laws.{opens-real, opens-reached, reached-real, day-limits, day-reached, day-real, same-day}
 use Rattle.calendar.proofs.day_of.Goals as goal
 
 -- where the date is day k, k is the difference of their days
-difference : (c : goal.After-days_after-at) (k : ℕ) → is_day c.args.opened k ≡ true → date_on c.args.opened k ≡ c.args.d → c.days_after-at.result ≡ c.days_after-first.result + k
-difference c k e d =
-    let o = c.args.opened in
+difference : (o d : Date) (first at k : ℕ) → first ≡ days_after o → at ≡ days_after d → is_day o k ≡ true → date_on o k ≡ d → at ≡ first + k
+difference o d first at k ef ea e ed =
     let l = day-real o (day-limits o k e).opened.real k in
-    omega (arith, c.days_after-at.ensures, c.days_after-first.ensures, l.later, ap days_after d)
+    omega (arith, ea, ef, l.later, ap days_after ed)
 
 pub returns-then-not-can_open : goal.returns-then-not-can_open
 returns-then-not-can_open c = λ k e _. false≢true (sym (not-true _ c.if-not-can_open.true-raw) ∙ (c.can_open.ensures ∙ (day-limits _ k e).open_is))
@@ -28,19 +27,18 @@ pub days_after-at-requires : goal.days_after-at-requires
 days_after-at-requires c = (sym c.in_reach.ensures ∙ not-false _ c.if-not-in_reach.false-raw)
 
 pub returns-then-at-first : goal.returns-then-at-first
-returns-then-at-first c = λ k e d. omega (arith, difference c.before k e d)
+returns-then-at-first c = λ k e d. let s = difference _ _ _ _ k c.days_after-first.ensures c.days_after-at.ensures e d in omega arith
 
 pub returns-then-at-first-gt-FINAL_DAY : goal.returns-then-at-first-gt-FINAL_DAY
-returns-then-at-first-gt-FINAL_DAY c = λ k e d. omega (arith, difference c.before.before k e d, (day-limits _ k e).limit)
+returns-then-at-first-gt-FINAL_DAY c = λ k e d. let s = difference _ _ _ _ k c.days_after-first.ensures c.days_after-at.ensures e d in omega (arith, (day-limits _ k e).limit)
 
 pub returns : goal.returns
 returns c =
-    let b = c.before.before in
-    let o = b.args.opened in
-    let d = b.args.d in
-    let k = b.days_after-at.result - b.days_after-first.result in
+    let o = c.args.opened in
+    let d = c.args.d in
+    let k = c.days_after-at.result - c.days_after-first.result in
     let t = (sym c.can_open.ensures ∙ not-false _ c.if-not-can_open.false-raw) in
     let day = day-real o (opens-real o t).real k in (
       simp (t, le-leb k 399 c.if-at-first-gt-FINAL_DAY.false),
-      same-day (date_on o k) d day.real (reached-real d (sym c.in_reach.ensures ∙ not-false _ c.if-not-in_reach.false-raw)).real (day.later ∙ omega (arith, b.days_after-at.ensures, b.days_after-first.ensures)),
+      same-day (date_on o k) d day.real (reached-real d (sym c.in_reach.ensures ∙ not-false _ c.if-not-in_reach.false-raw)).real (day.later ∙ omega (arith, c.days_after-at.ensures, c.days_after-first.ensures)),
     )

@@ -1,6 +1,6 @@
 use native.Mathlib.Omega.{arith}
 use Rattle.calendar.specs.Calendar.{days_after}
-use Rattle.calendar.proofs.Laws.{RealTo, reached-real, days-limit}
+use Rattle.calendar.proofs.Laws.{reached-real, days-limit}
 use Rattle.calendar.proofs.days_after.Goals as goal
 
 pub overflow_sub-d : goal.overflow_sub-d

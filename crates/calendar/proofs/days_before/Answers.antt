@@ -3,7 +3,6 @@ use mathlib.Core.Bool.{Bool, true, false}
 use mathlib.Core.List.{List, [], ◌∷◌}
 use Prim.Native.Nat.{ℕ}
 use native.Mathlib.Omega.{arith}
-use borrow.Author.Rules.{rules}
 use Rattle.calendar.specs.Calendar.{total}
 use Rattle.calendar.specs.Work.{days_before}
 use Rattle.calendar.proofs.Sums.{is-table, table_is}

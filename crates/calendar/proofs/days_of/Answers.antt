@@ -4,7 +4,6 @@ use mathlib.Core.Logic.{◌↔◌}
 use Prim.Native.Nat.{ℕ, suc, ◌+◌, ◌≤◌, ◌<◌}
 use borrow.Author.Tests.{not-true, not-false}
 use native.Mathlib.Omega.{arith}
-use borrow.Author.Rules.{rules}
 use Rattle.calendar.specs.Calendar.{opens, is_day, date_on, month_from, months_after, length_after, MonthAnswer}
 use Rattle.calendar.specs.Work.{month_start}
 use Rattle.calendar.proofs.Laws.{day-limits, month-is, month-limit}

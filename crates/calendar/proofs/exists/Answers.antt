@@ -1,5 +1,4 @@
 use borrow.Author.Tests.{le-leb, lt-leb}
-use borrow.Author.Rules.{rules}
 use Rattle.calendar.specs.Calendar.{date_exists}
 use Rattle.calendar.proofs.exists.Goals as goal
 

@@ -1,5 +1,4 @@
 use borrow.Author.Tests.{le-leb, lt-leb}
-use borrow.Author.Rules.{rules}
 use Rattle.calendar.specs.Calendar.{is_in_reach}
 use Rattle.calendar.proofs.in_reach.Goals as goal
 

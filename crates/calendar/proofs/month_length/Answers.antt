@@ -1,6 +1,5 @@
 use mathlib.Core.Path.{sym, ◌∙◌, ap}
 use mathlib.Core.Bool.{Bool}
-use borrow.Author.Rules.{rules}
 use Rattle.calendar.specs.Calendar.{leap_year, month_days, month_length}
 use Rattle.calendar.proofs.Laws.{no-days}
 use Rattle.calendar.proofs.month_length.Goals as goal

@@ -1,6 +1,6 @@
 use native.Mathlib.Omega.{arith}
 use Rattle.calendar.specs.Work.{month_start}
-use Rattle.calendar.proofs.Laws.{RealTo, opens-real, opens-reached}
+use Rattle.calendar.proofs.Laws.{opens-real, opens-reached}
 use Rattle.calendar.proofs.month_start.Goals as goal
 
 pub days_after-first-requires : goal.days_after-first-requires

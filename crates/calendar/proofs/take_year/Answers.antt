@@ -1,5 +1,4 @@
 use borrow.Author.Tests.{lt-ltb, le-ltb}
-use borrow.Author.Rules.{rules}
 use Rattle.calendar.proofs.take_year.Goals as goal
 
 pub returns-then-p-n : goal.returns-then-p-n

@@ -1,5 +1,4 @@
 use mathlib.Core.Path.{sym, ◌∙◌}
-use borrow.Author.Rules.{rules}
 use Rattle.calendar.specs.Work.{year_length}
 use Rattle.calendar.proofs.year_length.Goals as goal
 

@@ -1,6 +1,5 @@
 use mathlib.Core.Path.{sym, ◌∙◌}
 use borrow.Author.Tests.{lt-ltb, le-ltb}
-use borrow.Author.Rules.{rules}
 use Rattle.calendar.proofs.Years.{years-sum}
 use Rattle.calendar.proofs.years_before.Goals as goal
 

@@ -1,11 +1,8 @@
 -- `image::are_day_images` meets its contract. The loop's invariant: what is left gives the same.
 -- Assumes nothing.
 use Prim.Native.Nat.{◌-◌}
-use mathlib.Core.Path.{sym, ◌∙◌}
-use borrow.Author.Rules.{rules}
-use borrow.Author.Tests.{not-true, not-false}
 use Rattle.image.specs.Image.{is_day_image}
-use Rattle.image.proofs.Lists.{Rest, starts, passes, stops, none_left}
+use Rattle.image.proofs.Lists.{Rest}
 use Rattle.image.proofs.are_day_images.Given as goal
 
 abbrev pub invariant-loop-i : goal.invariant-loop-i

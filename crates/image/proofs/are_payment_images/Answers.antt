@@ -1,11 +1,10 @@
 -- `image::are_payment_images` meets its contract. The loop's invariant: what is left gives the same.
 -- Assumes nothing.
-use Prim.Native.Nat.{◌-◌}
 use mathlib.Core.Path.{sym}
 use borrow.Author.Rules.{rules}
 use borrow.Author.Tests.{le-leb, lt-leb}
 use Rattle.image.specs.Image.{is_payment_image}
-use Rattle.image.proofs.Lists.{Rest, starts, passes, stops, none_left}
+use Rattle.image.proofs.Lists.{starts, passes, stops, none_left}
 use Rattle.image.proofs.are_payment_images.Goals as goal
 
 pub returns-then-p-gt1 : goal.returns-then-p-gt1

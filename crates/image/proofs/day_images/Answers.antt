@@ -1,9 +1,8 @@
 -- `image::day_images` meets its contract. The loop's invariant: the days passed are mapped.
 -- Assumes nothing.
-use Prim.Native.Nat.{◌-◌}
 use borrow.Author.Rules.{rules}
 use Rattle.image.specs.Image.{day_image}
-use Rattle.image.proofs.Lists.{Mapped, begins, turn, ends}
+use Rattle.image.proofs.Lists.{begins, turn, ends}
 use Rattle.image.proofs.day_images.Goals as goal
 
 pub loop-i-preserved : goal.loop-i-preserved

@@ -1,9 +1,8 @@
 -- `image::day_images` meets its contract. The loop's invariant: the days passed are mapped.
 -- Assumes nothing.
 use Prim.Native.Nat.{◌-◌}
-use borrow.Author.Rules.{rules}
 use Rattle.image.specs.Image.{day_image}
-use Rattle.image.proofs.Lists.{Mapped, begins, turn, ends}
+use Rattle.image.proofs.Lists.{Mapped}
 use Rattle.image.proofs.day_images.Given as goal
 
 abbrev pub invariant-loop-i : goal.invariant-loop-i

@@ -1,12 +1,8 @@
 -- `image::days_of` meets its contract. The loop's invariant: the days passed are mapped.
 -- Assumes nothing.
 use Prim.Native.Nat.{◌-◌}
-use mathlib.Core.Path.{ap}
-use Rattle.account.specs.Record.{blank_day}
-use Rattle.moves.specs.declared.Usage.{Usage}
-use borrow.Author.Rules.{rules}
 use Rattle.image.specs.Image.{day_of}
-use Rattle.image.proofs.Lists.{Mapped, begins, turn, ends}
+use Rattle.image.proofs.Lists.{Mapped}
 use Rattle.image.proofs.days_of.Given as goal
 
 abbrev pub invariant-loop-i : goal.invariant-loop-i

@@ -1,14 +1,12 @@
 use mathlib.Core.Path.{sym, ◌∙◌}
-use borrow.Author.Rules.{rules}
-use borrow.Author.Tests.{not-true, not-false}
 use Rattle.moves.proofs.Ways.{yes, no}
 use Rattle.image.specs.Image.{image_after}
 use Rattle.image.proofs.image_after.Goals as goal
 
 pub returns-then-not-is_image : goal.returns-then-not-is_image
 unfolding image_after
-returns-then-not-is_image c = sym (no _ _ _ (sym c.is_image.ensures ∙ not-true _ c.if-not-is_image.true-raw))
+returns-then-not-is_image c = sym (no _ _ _ (sym c.is_image.ensures ∙ c.if-not-is_image.true))
 
 pub returns : goal.returns
 unfolding image_after
-returns c = c.image_of.ensures ∙ sym (yes _ _ _ (sym c.is_image.ensures ∙ not-false _ c.if-not-is_image.false-raw))
+returns c = c.image_of.ensures ∙ sym (yes _ _ _ (sym c.is_image.ensures ∙ c.if-not-is_image.false))

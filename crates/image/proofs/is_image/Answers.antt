@@ -1,6 +1,5 @@
 use mathlib.Core.Path.{sym, ◌∙◌}
-use borrow.Author.Rules.{rules}
-use borrow.Author.Tests.{le-leb, lt-leb, eq-eqb, ne_eqb, not-true, not-false}
+use borrow.Author.Tests.{le-leb, lt-leb, eq-eqb, ne_eqb}
 use Rattle.image.specs.Image.{is_image}
 use Rattle.image.proofs.is_image.Goals as goal
 
@@ -15,13 +14,10 @@ returns-then-i-ne0 c = simp (le-leb _ _ c.if-s-gt1.false, ne_eqb _ _ c.if-i-ne0.
 pub returns-then-not-are_day_images : goal.returns-then-not-are_day_images
 unfolding is_image
 returns-then-not-are_day_images c =
-    let z = c.before.before.before in
-    simp (le-leb _ _ z.if-s-gt1.false, eq-eqb _ _ z.if-i-ne0.false, sym c.are_day_images.ensures ∙ not-true _ c.if-not-are_day_images.true-raw)
+    simp (le-leb _ _ c.if-s-gt1.false, eq-eqb _ _ c.if-i-ne0.false, sym c.are_day_images.ensures ∙ c.if-not-are_day_images.true)
 
 pub returns : goal.returns
 unfolding is_image
 returns c =
-    let f = c.before.before in
-    let z = f.before.before.before in
-    simp (le-leb _ _ z.if-s-gt1.false, eq-eqb _ _ z.if-i-ne0.false, sym f.are_day_images.ensures ∙ not-false _ f.if-not-are_day_images.false-raw)
+    simp (le-leb _ _ c.if-s-gt1.false, eq-eqb _ _ c.if-i-ne0.false, sym c.are_day_images.ensures ∙ c.if-not-are_day_images.false)
     c.are_payment_images.ensures

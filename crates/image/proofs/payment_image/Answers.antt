@@ -1,6 +1,5 @@
 use Prim.Native.Nat.{ℕ}
 use mathlib.Core.Path.{ap}
-use borrow.Author.Rules.{rules}
 use Rattle.image.specs.Image.{payment_image}
 use Rattle.image.proofs.payment_image.Goals as goal
 

@@ -1,9 +1,8 @@
 -- `image::payment_images` meets its contract. The loop's invariant: the payments passed are mapped.
 -- Assumes nothing.
 use Prim.Native.Nat.{◌-◌}
-use borrow.Author.Rules.{rules}
 use Rattle.image.specs.Image.{payment_image}
-use Rattle.image.proofs.Lists.{Mapped, begins, turn, ends}
+use Rattle.image.proofs.Lists.{Mapped}
 use Rattle.image.proofs.payment_images.Given as goal
 
 abbrev pub invariant-loop-i : goal.invariant-loop-i

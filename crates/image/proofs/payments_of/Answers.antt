@@ -1,10 +1,9 @@
 -- `image::payments_of` meets its contract. The loop's invariant: the payments passed are mapped.
 -- Assumes nothing.
-use Prim.Native.Nat.{◌-◌}
 use Rattle.account.specs.Record.{no_payment}
 use borrow.Author.Rules.{rules}
 use Rattle.image.specs.Image.{payment_of}
-use Rattle.image.proofs.Lists.{Mapped, begins, turn, ends}
+use Rattle.image.proofs.Lists.{begins, turn, ends}
 use Rattle.image.proofs.payments_of.Goals as goal
 
 pub loop-i-preserved : goal.loop-i-preserved

@@ -1,10 +1,8 @@
 -- `image::payments_of` meets its contract. The loop's invariant: the payments passed are mapped.
 -- Assumes nothing.
 use Prim.Native.Nat.{◌-◌}
-use Rattle.account.specs.Record.{no_payment}
-use borrow.Author.Rules.{rules}
 use Rattle.image.specs.Image.{payment_of}
-use Rattle.image.proofs.Lists.{Mapped, begins, turn, ends}
+use Rattle.image.proofs.Lists.{Mapped}
 use Rattle.image.proofs.payments_of.Given as goal
 
 abbrev pub invariant-loop-i : goal.invariant-loop-i

@@ -1,5 +1,4 @@
 use mathlib.Core.Path.{ap, ◌∙◌}
-use borrow.Author.Rules.{rules}
 use Rattle.account.specs.Step.{step_of}
 use Rattle.account.specs.declared.Account.{Account}
 use Rattle.account.specs.declared.Posted.{Posted}
@@ -9,7 +8,6 @@ use Rattle.image.proofs.post.Goals as goal
 pub returns : goal.returns
 unfolding posted_of
 returns c =
-    let s = c.before.before in
-    let a = s.args in
-    let p = s.step-p.ensures ∙ ap (λ (x : Account). step_of x a.e) s.account_of.ensures in
+    let a = c.args in
+    let p = c.step-p.ensures ∙ ap (λ (x : Account). step_of x a.e) c.account_of.ensures in
     λ k. record { image = (c.image_after.ensures ∙ ap (λ (x : Posted). image_after a.i x.account) p) k; code = (p k).code; value = (p k).value }

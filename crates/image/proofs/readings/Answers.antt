@@ -2,7 +2,7 @@ use mathlib.Core.Path.{ap, ◌∙◌}
 use mathlib.Core.Bool.{Bool, cond}
 use mir.Syntax.{w64}
 use mir.Facts.{to_z-of_z}
-use borrow.Author.Rules.{rules, sfits_of}
+use borrow.Author.Rules.{sfits_of}
 use Rattle.moves.specs.declared.Totals.{Totals}
 use Rattle.readings.specs.Readings.{balance_of, settled_of}
 use Rattle.image.specs.Image.{totals_of, readings_of}
@@ -11,15 +11,10 @@ use Rattle.image.proofs.readings.Goals as goal
 pub returns : goal.returns
 unfolding readings_of totals_of
 returns c =
-    let v = c.before in
-    let e = v.before in
-    let p = e.before in
-    let s = p.before in
-    let b = s.before in
-    let t = b.totals_of-s.ensures in
-    let balance = to_z-of_z {w = w64} (sfits_of b.balance.type-inv) ∙ b.balance.ensures.totals ∙ ap balance_of t in
-    let settled = to_z-of_z {w = w64} (sfits_of s.settled.type-inv) ∙ s.settled.ensures.totals ∙ ap settled_of t in
-    let plan = p.plan.ensures.totals ∙ ap (λ (x : Totals). x.plan) t in
-    let estimates = e.estimates.ensures.totals ∙ ap (λ (x : Totals). x.standing) t in
-    let service = c.flag.ensures ∙ ap (λ (x : Bool). cond x 1 0) (v.service.ensures.totals ∙ ap (λ (x : Totals). x.on) t) in
+    let t = c.totals_of-s.ensures in
+    let balance = to_z-of_z {w = w64} (sfits_of c.balance.type_inv) ∙ c.balance.ensures.totals ∙ ap balance_of t in
+    let settled = to_z-of_z {w = w64} (sfits_of c.settled.type_inv) ∙ c.settled.ensures.totals ∙ ap settled_of t in
+    let plan = c.plan.ensures.totals ∙ ap (λ (x : Totals). x.plan) t in
+    let estimates = c.estimates.ensures.totals ∙ ap (λ (x : Totals). x.standing) t in
+    let service = c.flag.ensures ∙ ap (λ (x : Bool). cond x 1 0) (c.service.ensures.totals ∙ ap (λ (x : Totals). x.on) t) in
     λ k. record { balance = balance k; settled = settled k; plan = plan k; estimates = estimates k; service = service k }

@@ -1,5 +1,4 @@
 use mathlib.Core.Path.{ap, ◌∙◌}
-use borrow.Author.Rules.{rules}
 use Rattle.account.specs.declared.Account.{Account}
 use Rattle.months.specs.Summary.{summary_of}
 use Rattle.image.specs.Image.{summary_in}

@@ -1,6 +1,5 @@
 use Prim.Native.Nat.{ℕ}
 use mathlib.Core.Path.{ap}
-use borrow.Author.Rules.{rules}
 use Rattle.image.specs.Image.{totals_image}
 use Rattle.image.proofs.totals_image.Goals as goal
 

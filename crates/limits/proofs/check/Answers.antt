@@ -1,13 +1,13 @@
 -- `limits::check` meets its contract: each arm by what `in_limits` asks of its sort.
 -- Assumes nothing.
-use Prim.Native.Nat.{ℕ}
+use Prim.Native.Nat.{ℕ, ◌<◌}
 use mathlib.Core.Path.{◌≡◌, refl, sym, ap, ◌∙◌}
 use mathlib.Core.Bool.{Bool, cond}
 use mathlib.Core.Logic.{inl, inr}
-use borrow.Author.Rules.{rules}
+use native.Mathlib.Omega.{arith}
 use Rattle.ledger.specs.Event.{in_limits, sort_count}
 use Rattle.ledger.specs.declared.Event.{Event}
-use Rattle.limits.proofs.Sorts.{of_sort, of-sort, above, no-sort}
+use Rattle.limits.proofs.Sorts.{of_sort, of-sort, no-sort}
 use Rattle.limits.proofs.check.Goals as goal
 
 -- an arm's answer is the limits' of its sort
@@ -15,40 +15,51 @@ by : (e : Event) {k : ℕ} → e.sort ≡ k → (r : ℕ) → r ≡ cond (in_lim
 by e h r s = s ∙ ap (λ (b : Bool). cond b 0 3) (sym (of-sort e h))
 
 pub returns-in-1 : goal.returns-in-1
-returns-in-1 c = by c.args.e c.in-0.keys1 _ c.amount_code.ensures
+unfolding in_limits
+returns-in-1 c = by c.args.e c.in-1.is _ c.amount_code.ensures
 
 pub returns-in-2 : goal.returns-in-2
-returns-in-2 c = by c.args.e c.in-0.keys2 _ refl
+unfolding in_limits
+returns-in-2 c = by c.args.e c.in-2.is _ refl
 
 pub returns-in-3 : goal.returns-in-3
-returns-in-3 c = by c.args.e c.in-0.keys3 _ c.amount_code-in-3.ensures
+unfolding in_limits
+returns-in-3 c = by c.args.e c.in-3.is _ c.amount_code-in-3.ensures
 
 pub returns-in-4 : goal.returns-in-4
-returns-in-4 c = by c.args.e c.in-0.keys4 _ c.charge_code.ensures
+unfolding in_limits
+returns-in-4 c = by c.args.e c.in-4.is _ c.charge_code.ensures
 
 pub returns-in-5 : goal.returns-in-5
-returns-in-5 c = by c.args.e c.in-0.keys5 _ c.wh_code.ensures
+unfolding in_limits
+returns-in-5 c = by c.args.e c.in-5.is _ c.wh_code.ensures
 
 pub returns-in-6 : goal.returns-in-6
-returns-in-6 c = by c.args.e c.in-0.keys6 _ c.wh_code-in-6.ensures
+unfolding in_limits
+returns-in-6 c = by c.args.e c.in-6.is _ c.wh_code-in-6.ensures
 
 pub returns-in-7 : goal.returns-in-7
-returns-in-7 c = by c.args.e c.in-0.keys7 _ refl
+unfolding in_limits
+returns-in-7 c = by c.args.e c.in-7.is _ refl
 
 pub returns-in-8 : goal.returns-in-8
-returns-in-8 c = by c.args.e c.in-0.keys8 _ c.mark_code.ensures
+unfolding in_limits
+returns-in-8 c = by c.args.e c.in-8.is _ c.mark_code.ensures
 
 pub returns-in-9 : goal.returns-in-9
-returns-in-9 c = by c.args.e c.in-0.keys9 _ c.plan_code.ensures
+unfolding in_limits
+returns-in-9 c = by c.args.e c.in-9.is _ c.plan_code.ensures
 
 pub returns-in-10 : goal.returns-in-10
-returns-in-10 c = by c.args.e c.in-0.keys10 _ refl
+unfolding in_limits
+returns-in-10 c = by c.args.e c.in-10.is _ refl
 
 pub returns-in-11 : goal.returns-in-11
-returns-in-11 c = by c.args.e c.in-0.keys11 _ refl
+unfolding in_limits
+returns-in-11 c = by c.args.e c.in-11.is _ refl
 
 pub returns-in-0 : goal.returns-in-0
-returns-in-0 c = simp (no-sort c.args.e (inl c.in-0.keys12))
+returns-in-0 c = let z : c.args.e.sort ≡ 0 = omega arith in simp (no-sort c.args.e (inl z))
 
 pub returns-in-0-2 : goal.returns-in-0-2
-returns-in-0-2 c = simp (no-sort c.args.e (inr (above c.args.e.sort sort_count c.in-0.rest.0 c.in-0.rest.1)))
+returns-in-0-2 c = let z : sort_count < c.args.e.sort = omega arith in simp (no-sort c.args.e (inr z))

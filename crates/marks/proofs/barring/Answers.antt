@@ -1,4 +1,3 @@
-use borrow.Author.Rules.{rules}
 use borrow.Author.Tests.{le-leb, lt-leb}
 use Rattle.marks.specs.Marks.{barring_on}
 use Rattle.marks.proofs.barring.Goals as goal

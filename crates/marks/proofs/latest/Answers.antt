@@ -1,8 +1,7 @@
-use Prim.Native.Nat.{◌≤◌}
-use mathlib.Core.Path.{◌≡◌, sym, ◌∙◌}
+use mathlib.Core.Path.{sym, ◌∙◌}
 use borrow.Author.Rules.{rules}
 use borrow.Author.Tests.{eq-eqb, ne_eqb, le-leb, lt-leb}
-use Rattle.marks.specs.Marks.{latest_of, latest_warning}
+use Rattle.marks.specs.Marks.{latest_warning}
 use Rattle.marks.proofs.Turns.{latest-over, latest-first, latest-turn}
 use Rattle.marks.proofs.latest.Goals as goal
 

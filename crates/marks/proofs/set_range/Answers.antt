@@ -1,8 +1,7 @@
-use Prim.Native.Nat.{◌+◌, ◌-◌, ◌≤◌}
+use Prim.Native.Nat.{◌+◌}
 use mathlib.Core.Path.{◌≡◌}
 use native.Mathlib.Omega.{arith}
 use borrow.Author.Rules.{rules}
-use Rattle.marks.specs.Marks.{mark_range}
 use Rattle.marks.proofs.Turns.{mark-turn, mark-none}
 use Rattle.marks.proofs.set_range.Goals as goal
 

@@ -1,14 +1,13 @@
-use Prim.Native.Nat.{◌≤◌}
 use mathlib.Core.Path.{◌≡◌, sym, ◌∙◌}
 use mathlib.Core.Bool.{false, ◌&&◌, and-false}
-use mathlib.Core.Logic.{inl, inr}
 use lib.Dec.{ltb, eqb}
 use native.Mathlib.Omega.{arith}
 use borrow.Author.Rules.{rules}
 use borrow.Author.Tests.{eq-eqb, ne_eqb, le-leb, lt-leb, lt-ltb, le-ltb}
-use Rattle.marks.specs.Marks.{near_of, weather_near}
+use Rattle.marks.specs.Marks.{weather_near}
 use Rattle.marks.proofs.Turns.{near-turn}
 use Rattle.marks.proofs.weather_near.Goals as goal
+use Rattle.marks.proofs.weather_near.Goals.{then-w-lt-SATURDAY+else-left-eq0, else-w-lt-SATURDAY}
 
 pub returns-then-day-gt-FINAL_DAY : goal.returns-then-day-gt-FINAL_DAY
 unfolding weather_near
@@ -35,11 +34,11 @@ returns-then-left-eq0 c =
 
 pub loop-weekday-preserved : goal.loop-weekday-preserved
 loop-weekday-preserved c =
-    let e = c.before.before.before in
-    let l = e.loop-weekday in (
+    let l = c.loop-weekday in
+    let goes_on : (ltb l.w 5 && eqb l.left 0) ≡ false = elim c.if-w-lt-SATURDAY.branch [
+      | then-w-lt-SATURDAY+else-left-eq0 w ↦ simp (ne_eqb _ _ w.if-left-eq0.false, and-false)
+      | else-w-lt-SATURDAY w ↦ simp (le-ltb l.w 5 (omega arith))
+    ] in (
       search rules,
-      l.invariant.1 ∙ near-turn _ l.w l.d l.left ∙ simp (eq-eqb _ _ e.if-marks-i-ne0.false, ne_eqb _ _ e.if-d-eq0.false, (elim c.if-w-lt-SATURDAY.branch [
-  | inl w ↦ simp (ne_eqb _ _ w.1.left, and-false)
-  | inr w ↦ simp (le-ltb c.loop-weekday.w 5 (omega arith))
-]), c.day_before-w.ensures, c.business_left-left.ensures),
+      l.invariant.1 ∙ near-turn _ l.w l.d l.left ∙ simp (eq-eqb _ _ c.if-marks-i-ne0.false, ne_eqb _ _ c.if-d-eq0.false, goes_on, c.day_before-w.ensures, c.business_left-left.ensures),
     )

@@ -1,13 +1,6 @@
 use Prim.Native.Nat.{◌≤◌}
-use mathlib.Core.Path.{◌≡◌, sym, ◌∙◌}
-use mathlib.Core.Bool.{false, ◌&&◌, and-false}
-use mathlib.Core.Logic.{inl, inr}
-use lib.Dec.{ltb, eqb}
-use native.Mathlib.Omega.{arith}
-use borrow.Author.Rules.{rules}
-use borrow.Author.Tests.{eq-eqb, ne_eqb, le-leb, lt-leb, lt-ltb, le-ltb}
+use mathlib.Core.Path.{◌≡◌}
 use Rattle.marks.specs.Marks.{near_of, weather_near}
-use Rattle.marks.proofs.Turns.{near-turn}
 use Rattle.marks.proofs.weather_near.Given as goal
 
 -- what is left gives the same

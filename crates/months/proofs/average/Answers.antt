@@ -1,6 +1,5 @@
 -- `months::average` meets its contract.
 -- Assumes nothing.
-use borrow.Author.Rules.{rules}
 use borrow.Author.Tests.{eq-eqb, ne_eqb}
 use Rattle.ledger.specs.Months.{average_of}
 use Rattle.months.proofs.average.Goals as goal

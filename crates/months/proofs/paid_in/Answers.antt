@@ -1,10 +1,8 @@
 -- `months::paid_in` meets its contract. The loop's invariant: what the payments passed come to.
 -- Assumes nothing.
-use Prim.Native.Nat.{◌≤◌, ◌-◌}
 use mathlib.Core.Path.{◌≡◌}
 use native.Mathlib.Omega.{arith}
 use borrow.Author.Rules.{rules}
-use Rattle.months.specs.Work.{span, paid_by, PaidTo}
 use Rattle.months.proofs.Turns.{paid-none, paid-again}
 use Rattle.months.proofs.paid_in.Goals as goal
 
@@ -15,8 +13,8 @@ pub loop-n-preserved : goal.loop-n-preserved
 loop-n-preserved c =
     let l = c.loop-n in (
       search rules,
-      paid-again _ _ l.n l.s _ l.invariant.1 c.with_payment-s.ensures.0,
-      c.with_payment-s.ensures.1 l.n l.invariant.2,
+      paid-again _ _ l.n l.s _ l.invariant.1 c.with_payment-s.ensures.value,
+      c.with_payment-s.ensures.by_index l.n l.invariant.2,
     )
 
 pub returns : goal.returns

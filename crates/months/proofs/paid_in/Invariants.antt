@@ -2,10 +2,7 @@
 -- Assumes nothing.
 use Prim.Native.Nat.{◌≤◌, ◌-◌}
 use mathlib.Core.Path.{◌≡◌}
-use native.Mathlib.Omega.{arith}
-use borrow.Author.Rules.{rules}
 use Rattle.months.specs.Work.{span, paid_by, PaidTo}
-use Rattle.months.proofs.Turns.{paid-none, paid-again}
 use Rattle.months.proofs.paid_in.Given as goal
 
 abbrev pub invariant-loop-n : goal.invariant-loop-n

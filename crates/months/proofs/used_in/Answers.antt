@@ -1,26 +1,9 @@
 -- `months::used_in` meets its contract. The loop's invariant: what the days passed come to; those before `from` come to nothing.
 -- Assumes nothing.
-use Prim.Native.Nat.{◌≤◌, ◌-◌}
 use mathlib.Core.Path.{◌≡◌, ◌∙◌}
 use native.Mathlib.Omega.{arith}
 use borrow.Author.Rules.{rules}
-use Rattle.months.specs.Work.{span, used_by, UsedTo}
 use Rattle.months.proofs.Turns.{used-none, used-again, used_all}
-pub used-in-spec : {M : Type 1} → statement M
-used-in-spec =
-    tie.close
-    (tie.spec
-    invariant-loop
-    decreases-loop
-    loop-holds
-    (λ c. search rules)
-    (λ c. search rules)
-    (λ c. search rules)
-    (λ c κs. search rules)
-    (λ c. search rules)
-    (λ c. search rules)
-    loop-again
-    returns)
 use Rattle.months.proofs.used_in.Goals as goal
 
 pub loop-d-init : goal.loop-d-init
@@ -31,8 +14,8 @@ loop-d-preserved c =
     let l = c.loop-d in (
       search rules,
       search rules,
-      used-again _ _ _ l.d l.s _ l.invariant.0 c.loop-d-test.true l.invariant.2 c.with_day-s.ensures.0,
-      c.with_day-s.ensures.1 l.d l.invariant.3,
+      used-again _ _ _ l.d l.s _ l.invariant.0 (omega arith) l.invariant.2 c.with_day-s.ensures.value,
+      c.with_day-s.ensures.by_index l.d l.invariant.3,
     )
 
 pub returns : goal.returns
@@ -40,4 +23,4 @@ returns c =
     let l = c.loop-d in
     let a = c.args in
     let e : l.d ≡ a.to = omega arith in
-    ((rw e at l.invariant.2) ∙ used_all _ _ _ c.requires.1, omega arith)
+    record { value = (rw e at l.invariant.2) ∙ used_all _ _ _ c.requires.1; used_to = omega arith }

@@ -1,7 +1,6 @@
 -- `printing::magnitude` meets its contract. Assumes nothing.
 use native.Mathlib.Omega.{arith}
 use Rattle.printing.proofs.Signs.{above, more-fits, taken-fits, taken_back, magnitude-below}
-use borrow.Author.Rules.{rules}
 use Rattle.printing.proofs.magnitude.Goals as goal
 
 pub overflow_cast-result : goal.overflow_cast-result

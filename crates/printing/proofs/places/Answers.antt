@@ -1,10 +1,8 @@
 -- `printing::places` meets its contract. The loop's invariant: k digits with those of the rest are one more than those of n.
 -- Assumes nothing.
-use Prim.Native.Nat.{◌+◌}
-use mathlib.Core.Path.{◌≡◌, ap}
+use mathlib.Core.Path.{ap}
 use native.Mathlib.Omega.{arith}
 use lib.ListN.{length}
-use Rattle.printing.specs.Printing.{decimal}
 use Rattle.printing.proofs.Digits.{decimal-low, length_high, length-decimal, some-digit}
 use Rattle.printing.proofs.places.Goals as goal
 

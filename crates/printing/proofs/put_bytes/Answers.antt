@@ -1,12 +1,11 @@
 -- `printing::put_bytes` meets its contract. The loop's invariant: the first i bytes are in their places, and the rest is as it was.
 -- Assumes nothing.
-use Prim.Native.Nat.{◌+◌, ◌-◌, ◌≤◌}
+use Prim.Native.Nat.{◌+◌}
 use mathlib.Core.Path.{◌≡◌, refl, sym, ◌∙◌}
 use native.Mathlib.Numerals.{add-one}
 use native.Mathlib.Omega.{arith}
 use lib.ListN.{length}
-use lib.Seq.{paste, paste-zero, paste-suc, length-paste}
-use borrow.Author.Rules.{rules}
+use lib.Seq.{paste-zero, paste-suc, length-paste}
 use borrow.Author.Tests.{leb-true, not-true, not-false}
 use Rattle.printing.proofs.Laws.{paste_all, puts-nothing, puts-all}
 use Rattle.printing.proofs.put_bytes.Goals as goal

@@ -1,14 +1,9 @@
 -- `printing::put_bytes` meets its contract. The loop's invariant: the first i bytes are in their places, and the rest is as it was.
 -- Assumes nothing.
 use Prim.Native.Nat.{◌+◌, ◌-◌, ◌≤◌}
-use mathlib.Core.Path.{◌≡◌, refl, sym, ◌∙◌}
-use native.Mathlib.Numerals.{add-one}
-use native.Mathlib.Omega.{arith}
+use mathlib.Core.Path.{◌≡◌}
 use lib.ListN.{length}
-use lib.Seq.{paste, paste-zero, paste-suc, length-paste}
-use borrow.Author.Rules.{rules}
-use borrow.Author.Tests.{leb-true, not-true, not-false}
-use Rattle.printing.proofs.Laws.{paste_all, puts-nothing, puts-all}
+use lib.Seq.{paste}
 use Rattle.printing.proofs.put_bytes.Given as goal
 
 abbrev pub invariant-loop-i : goal.invariant-loop-i

@@ -1,12 +1,9 @@
 -- `printing::spell` meets its contract. The loop's invariant: the digits of the rest put over what stands now give the whole.
 -- Assumes nothing.
-use Prim.Native.Nat.{◌+◌, ◌≤◌, ◌/◌, ◌%◌}
-use mathlib.Core.Path.{◌≡◌, refl, sym, ap, ◌∙◌}
-use native.Mathlib.Omega.{arith}
-use lib.ListN.{length, length-set}
+use Prim.Native.Nat.{◌+◌, ◌≤◌}
+use mathlib.Core.Path.{◌≡◌}
+use lib.ListN.{length}
 use Rattle.printing.specs.Printing.{decimal, over}
-use Rattle.printing.proofs.Digits.{decimal-low, decimal-high, length_high, some-digit}
-use Rattle.printing.proofs.Laws.{over_last, over-one}
 use Rattle.printing.proofs.spell.Given as goal
 
 abbrev pub invariant-loop-rest : goal.invariant-loop-rest

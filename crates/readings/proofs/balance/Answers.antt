@@ -1,7 +1,6 @@
 -- `readings::balance` meets its contract: off the totals by the tests that led there, and so the ledger's for every list that made them.
 -- Assumes nothing.
 use mathlib.Core.Path.{◌∙◌}
-use borrow.Author.Rules.{rules}
 use borrow.Author.Tests.{le-leb, lt-leb}
 use Rattle.readings.specs.Readings.{balance_of}
 use Rattle.readings.proofs.After.{is-balance}
@@ -20,4 +19,4 @@ pub returns : goal.returns
 unfolding balance_of
 returns c =
     is-balance _ _
-    (back c.signed.result (record { sfits = c.signed.type-inv }) ∙ simp (le-leb _ _ c.if-s-gt-MAX_TOTAL.false, le-leb _ _ c.if-s-gt-MAX_TOTAL-2.false) c.signed.ensures)
+    (back c.signed.result (record { sfits = c.signed.type_inv }) ∙ simp (le-leb _ _ c.if-s-gt-MAX_TOTAL.false, le-leb _ _ c.if-s-gt-MAX_TOTAL-2.false) c.signed.ensures)

@@ -1,24 +1,19 @@
 -- `statement::post_events` meets its contract. The loop's invariant: the events left give the same account.
 -- Assumes nothing.
-use Prim.Native.Nat.{◌-◌}
 use native.Mathlib.Omega.{arith}
-use lib.ListN.{length}
-use borrow.Author.Rules.{rules}
-use Rattle.text.specs.Text.{EventAt}
-use Rattle.text.specs.declared.EventRead.TheVariants.{Got}
-use Rattle.statement.proofs.Events.{Going, begins, turns, stops}
+use Rattle.statement.proofs.Events.{begins, turns, stops}
 use Rattle.statement.proofs.post_events.Goals as goal
 
 pub loop-event-preserved : goal.loop-event-preserved
 loop-event-preserved c =
-    let e = (rw c.read-1.given.1 at c.read_event-read.ensures) in
+    let e = c.in-Got.ensures in
     turns _ _ _ _ _ c.loop-event.invariant _ _ _ e.0 e.2 c.post_by_value-posted.ensures.account
 
 pub returns-in-Broken : goal.returns-in-Broken
-returns-in-Broken c = stops _ _ _ _ _ c.loop-event.invariant (rw c.enum_told-1.given.1 at c.read_event-read.ensures)
+returns-in-Broken c = stops _ _ _ _ _ c.loop-event.invariant c.in-Broken.ensures
 
 pub loop-event-init : goal.loop-event-init
 loop-event-init c = begins _ _ _ c.requires
 
 pub loop-event-smaller : goal.loop-event-smaller
-loop-event-smaller c = let e = (rw c.read-1.given.1 at c.read_event-read.ensures) in omega (arith, e.1, e.2)
+loop-event-smaller c = let e = c.in-Got.ensures in omega (arith, e.1, e.2)

@@ -1,12 +1,8 @@
 -- `statement::post_events` meets its contract. The loop's invariant: the events left give the same account.
 -- Assumes nothing.
 use Prim.Native.Nat.{◌-◌}
-use native.Mathlib.Omega.{arith}
 use lib.ListN.{length}
-use borrow.Author.Rules.{rules}
-use Rattle.text.specs.Text.{EventAt}
-use Rattle.text.specs.declared.EventRead.TheVariants.{Got}
-use Rattle.statement.proofs.Events.{Going, begins, turns, stops}
+use Rattle.statement.proofs.Events.{Going}
 use Rattle.statement.proofs.post_events.Given as goal
 
 abbrev pub invariant-loop-event : goal.invariant-loop-event

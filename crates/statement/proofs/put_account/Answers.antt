@@ -2,7 +2,6 @@
 -- Assumes nothing.
 use lib.ListN.{drop}
 use Rattle.statement.proofs.Whole.{no-account, opened}
-use borrow.Author.Rules.{rules}
 use Rattle.statement.proofs.put_account.Goals as goal
 
 pub returns-then-code-ne0 : goal.returns-then-code-ne0

@@ -1,13 +1,9 @@
 -- `statement::put_months` meets its contract. The loop's invariant: the lines of the months passed stand in the buffer.
 -- Assumes nothing.
-use Prim.Native.Nat.{ℕ, ◌*◌, ◌-◌, ◌≤◌}
 use mathlib.Core.Path.{◌≡◌}
 use native.Mathlib.Omega.{arith}
 use borrow.Author.Rules.{rules}
-use Rattle.months.specs.Summary.{summary_of}
-use Rattle.printing.specs.Printing.{Wrote}
 use Rattle.printing.proofs.Placed.{kept}
-use Rattle.statement.specs.Statement.{month_lines}
 use Rattle.statement.proofs.Lines.{none, one_more}
 use Rattle.statement.proofs.put_months.Goals as goal
 
@@ -18,7 +14,7 @@ pub loop-m-preserved : goal.loop-m-preserved
 loop-m-preserved c =
     let l = c.loop-m in
     let line = c.put_line-place.ensures in
-    (search rules, omega (arith, l.invariant.1, line.1), one_more _ l.m _ l.invariant.2 c.summary-s.ensures.account line.0)
+    (search rules, omega (arith, l.invariant.1, line.upper_bound), one_more _ l.m _ l.invariant.2 c.summary-s.ensures.account line.wrote)
 
 pub returns : goal.returns
 returns c =

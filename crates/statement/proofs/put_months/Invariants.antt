@@ -1,14 +1,9 @@
 -- `statement::put_months` meets its contract. The loop's invariant: the lines of the months passed stand in the buffer.
 -- Assumes nothing.
 use Prim.Native.Nat.{ℕ, ◌*◌, ◌-◌, ◌≤◌}
-use mathlib.Core.Path.{◌≡◌}
-use native.Mathlib.Omega.{arith}
-use borrow.Author.Rules.{rules}
 use Rattle.months.specs.Summary.{summary_of}
 use Rattle.printing.specs.Printing.{Wrote}
-use Rattle.printing.proofs.Placed.{kept}
 use Rattle.statement.specs.Statement.{month_lines}
-use Rattle.statement.proofs.Lines.{none, one_more}
 use Rattle.statement.proofs.put_months.Given as goal
 
 abbrev pub invariant-loop-m : goal.invariant-loop-m

@@ -3,15 +3,14 @@
 use native.Mathlib.Omega.{arith}
 use Rattle.statement.specs.Statement.{payments_part}
 use Rattle.printing.proofs.Placed.{wrote_then}
-use borrow.Author.Rules.{rules}
 use Rattle.statement.proofs.put_payments.Goals as goal
 
 pub returns : goal.returns
 unfolding payments_part
 returns c =
-    let month = c.before.before.before.before.before.before.before.before.before.before.before.before.before.before.before.before in
-    let kept = c.before.before.before.before.before.before.before.before.before in
-    let reversed = c.before.before in (
-      wrote_then month.put_two-after_code.ensures.0 (wrote_then kept.put_two-after_kept.ensures.0 reversed.put_two.ensures.0),
-      omega (arith, month.put_two-after_code.ensures.1, kept.put_two-after_kept.ensures.1, reversed.put_two.ensures.1),
-    )
+    let month = c.put_two-after_code.ensures in
+    let kept = c.put_two-after_kept.ensures in
+    let reversed = c.put_two.ensures in record {
+      wrote = wrote_then month.wrote (wrote_then kept.wrote reversed.wrote);
+      upper_bound = omega (arith, month.upper_bound, kept.upper_bound, reversed.upper_bound);
+    }

@@ -2,7 +2,6 @@
 use mathlib.Core.Path.{sym}
 use lib.Seq.{length-take-le}
 use Rattle.printing.proofs.Placed.{within}
-use borrow.Author.Rules.{rules}
 use Rattle.summary.proofs.main.Goals as goal
 
 pub slice_bounds-out-end : goal.slice_bounds-out-end

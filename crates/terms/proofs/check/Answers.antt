@@ -1,7 +1,6 @@
 -- `terms::check` meets its contract: each return by the tests that led there.
 -- Assumes nothing.
 use mathlib.Core.Path.{sym, ◌∙◌}
-use borrow.Author.Rules.{rules}
 use borrow.Author.Tests.{le-leb, lt-leb, not-true, not-false}
 use Rattle.terms.specs.Terms.{valid_terms, terms_code}
 use Rattle.terms.proofs.check.Goals as goal

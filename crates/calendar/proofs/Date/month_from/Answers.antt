@@ -1,5 +1,4 @@
 use native.Mathlib.Omega.{arith}
-use borrow.Author.Rules.{rules}
 use Rattle.calendar.specs.Calendar.{month_from}
 use Rattle.calendar.proofs.Date.month_from.Goals as goal
 

@@ -1,9 +1,7 @@
-use mathlib.Core.Path.{◌≡◌, ◌∙◌, sym}
-use mathlib.Core.Bool.{true}
+use mathlib.Core.Path.{◌∙◌, sym}
 use borrow.Author.Tests.{lt-ltb, le-ltb, not-true, not-false}
 use native.Mathlib.Omega.{arith}
-use borrow.Author.Rules.{rules}
-use Rattle.calendar.specs.Calendar.{next_of, is_in_reach}
+use Rattle.calendar.specs.Calendar.{next_of}
 use Rattle.calendar.proofs.Laws.{reached-real}
 use Rattle.calendar.proofs.Date.next.Goals as goal
 

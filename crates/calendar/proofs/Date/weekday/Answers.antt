@@ -1,9 +1,7 @@
-use mathlib.Core.Path.{◌≡◌, ◌∙◌, sym}
-use mathlib.Core.Bool.{true}
+use mathlib.Core.Path.{◌∙◌, sym}
 use borrow.Author.Tests.{not-true, not-false}
 use native.Mathlib.Omega.{arith}
-use borrow.Author.Rules.{rules}
-use Rattle.calendar.specs.Calendar.{is_in_reach, weekday_of}
+use Rattle.calendar.specs.Calendar.{weekday_of}
 use Rattle.calendar.proofs.Laws.{days-limit, weekday-after}
 use Rattle.calendar.proofs.Date.weekday.Goals as goal
 
