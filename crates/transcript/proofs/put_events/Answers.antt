@@ -28,7 +28,7 @@ loop-at-preserved c =
     let m = c.move_of-m.result in
     -- the record with the move written back is the step's
     let is-step : ◌≡◌ {A = Posted} (record { account = with_cells b c.in-Got.event m; code = m.code; value = m.value }) (step_of b c.in-Got.event) =
-        rw c.move_of-m.ensures.move (written-always _ _) in
+    rw c.move_of-m.ensures.move (written-always _ _) in
     turns _ _ _ _ _ _ _ _ _ _ c.loop-at.invariant _ _ _ _ _ c.loop-at-test.true e.0 e.1 e.2 c.if-out-place-lt-PIECE_ROOM.false
     (rw c.set.ensures is-step) c.put_event-place.ensures.wrote c.put_event-place.ensures.upper_bound
 

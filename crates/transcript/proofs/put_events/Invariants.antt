@@ -1,15 +1,7 @@
 -- `transcript::put_events` meets its contract. Assumes nothing.
 use Prim.Native.Nat.{◌-◌}
-use mathlib.Core.Path.{◌≡◌, ◌∙◌}
-use native.Mathlib.Omega.{arith}
 use lib.ListN.{length}
-use borrow.Author.Rules.{rules}
-use Rattle.account.specs.Step.{step_of, with_cells}
-use Rattle.account.specs.declared.Posted.{Posted}
-use Rattle.account.proofs.Written.{written-always}
-use Rattle.text.specs.Text.{EventAt}
-use Rattle.text.specs.declared.EventRead.TheVariants.{Got}
-use Rattle.transcript.proofs.Turn.{Going, begins, sized, turns, pauses, stops, ends}
+use Rattle.transcript.proofs.Turn.{Going}
 use Rattle.transcript.proofs.put_events.Given as goal
 
 abbrev pub invariant-loop-at : goal.invariant-loop-at
