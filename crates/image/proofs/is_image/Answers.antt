@@ -1,23 +1,24 @@
 use mathlib.Core.Path.{sym, ◌∙◌}
+use native.Mathlib.Omega.{arith}
 use borrow.Author.Tests.{le-leb, lt-leb, eq-eqb, ne_eqb}
 use Rattle.image.specs.Image.{is_image}
 use Rattle.image.proofs.is_image.Goals as goal
 
 pub returns-then-s-gt1 : goal.returns-then-s-gt1
 unfolding is_image
-returns-then-s-gt1 c = simp (lt-leb _ _ c.if-s-gt1.true)
+returns-then-s-gt1 c = simp (lt-leb c.args.i.totals.on 1 (omega arith))
 
 pub returns-then-i-ne0 : goal.returns-then-i-ne0
 unfolding is_image
-returns-then-i-ne0 c = simp (le-leb _ _ c.if-s-gt1.false, ne_eqb _ _ c.if-i-ne0.true)
+returns-then-i-ne0 c = simp (le-leb c.args.i.totals.on 1 (omega arith), ne_eqb _ _ c.if-i-ne0.true)
 
 pub returns-then-not-are_day_images : goal.returns-then-not-are_day_images
 unfolding is_image
 returns-then-not-are_day_images c =
-    simp (le-leb _ _ c.if-s-gt1.false, eq-eqb _ _ c.if-i-ne0.false, sym c.are_day_images.ensures ∙ c.if-not-are_day_images.true)
+    simp (le-leb c.args.i.totals.on 1 (omega arith), eq-eqb _ _ c.if-i-ne0.false, sym c.are_day_images.ensures ∙ c.if-not-are_day_images.true)
 
 pub returns : goal.returns
 unfolding is_image
 returns c =
-    simp (le-leb _ _ c.if-s-gt1.false, eq-eqb _ _ c.if-i-ne0.false, sym c.are_day_images.ensures ∙ c.if-not-are_day_images.false)
+    simp (le-leb c.args.i.totals.on 1 (omega arith), eq-eqb _ _ c.if-i-ne0.false, sym c.are_day_images.ensures ∙ c.if-not-are_day_images.false)
     c.are_payment_images.ensures
