@@ -21,7 +21,7 @@ returns-then-byte-ne10 c =
 
 pub returns-then-i-from : goal.returns-then-i-from
 returns-then-i-from c =
-    c.loop-i.invariant.3 ∙ empty-number c.args.text.now c.args.from c.loop-i.i c.loop-i.n c.loop-i-test.true c.if-byte-ne10.false c.if-i-from.true
+    c.loop-i.invariant.3 ∙ empty-number c.args.text.now c.args.from c.loop-i.i c.loop-i.n c.loop-i-test.true c.if-byte-ne10.false (omega arith)
 
 pub returns-then-d-gt9 : goal.returns-then-d-gt9
 returns-then-d-gt9 c =
@@ -34,7 +34,7 @@ returns-then-i-from-2 c =
 pub returns-then-n-gt-MAX_NUMBER : goal.returns-then-n-gt-MAX_NUMBER
 returns-then-n-gt-MAX_NUMBER c =
     let f : ((c.loop-i.n ≡ 0) × (c.loop-i.i ≤ c.args.from)) ⊎ (c.loop-i.n ≡ 0 → ⊥) = elim c.if-n-eq0.branch [ then-n-eq0+else-i-from-2 w ↦ inl (w.if-n-eq0.true, w.if-i-from-2.false) | else-n-eq0 w ↦ inr w.if-n-eq0.false ] in
-    c.loop-i.invariant.3 ∙ above c.args.text.now c.args.from c.loop-i.i c.loop-i.n c.loop-i-test.true _ (a-digit (get_or c.args.text.now c.loop-i.i 0) _ c.digit-d.ensures c.if-d-gt9.false) c.loop-i.invariant.0 c.loop-i.invariant.2 f c.if-n-gt-MAX_NUMBER.true
+    c.loop-i.invariant.3 ∙ above c.args.text.now c.args.from c.loop-i.i c.loop-i.n c.loop-i-test.true _ (a-digit (get_or c.args.text.now c.loop-i.i 0) _ c.digit-d.ensures c.if-d-gt9.false) c.loop-i.invariant.0 c.loop-i.invariant.2 f (omega arith)
 
 pub loop-i-preserved : goal.loop-i-preserved
 loop-i-preserved c =
