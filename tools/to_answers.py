@@ -100,7 +100,6 @@ def convert(path):
     module = f"Rattle.{cname}.proofs.{rel.replace('/', '.')}"
     uses, body, inv = [], [], []
     pieces = decls(text)
-    invnames = []
     specargs = None
     named = {}
     left = []
@@ -185,7 +184,6 @@ def convert(path):
             return mp.get(mm.group(0), mm.group(0))
         bod = re.sub(r"(?<![\w.'’\-])[A-Za-zα-ω_][\w₀-₉'’]*(?![\w₀-₉'’\-])", sv, bod)
         newname = f"{kind}-{newloop}"
-        pre = 'abbrev pub '
         unf = re.findall(r'^unfolding .*$', q, re.M)
         invtext.append(com + f"abbrev pub {newname} : goal.{newname}\n" + ''.join(u + '\n' for u in unf) + f"{newname} l ={bod}")
     # helpers over a place's record: written out where they are used
