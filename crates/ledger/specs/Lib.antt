@@ -1,5 +1,6 @@
 pub mod Event
 pub mod Entries
+pub mod Refusals
 pub mod Rules
 pub mod Ledger
 pub mod Calls

@@ -4,10 +4,41 @@
 
 ghost use Rattle.std.specs.Prelude.{◌≡◌, map};
 ghost use Rattle.ledger.specs.Figures.{Figure, shown, figures};
+ghost use Rattle.ledger.specs.Refusals.{refusal_code, answer_of, summary_of};
+
+// Why terms, an event, a text or a row is refused, in the order of the table "What comes back on a refusal" (specs/Refusals.antt).
+#[derive(Clone, Copy, Debug, PartialEq, Eq)]
+pub enum Refusal {
+    Terms = 1,
+    Day,
+    Limits,
+    Full,
+    Payments,
+    Payment,
+    UsageDay,
+    UsageState,
+    PlanCondition,
+    PlanUnpaid,
+    Service,
+    Balance,
+    Warning,
+    Barred,
+    Form,
+    Buffer,
+}
+
+impl Refusal {
+    // The table's number.
+    pub fn code(self) -> u8
+        ensures { result ≡ refusal_code self }
+    {
+        self as u8
+    }
+}
 
 // An event as it is posted. Only the fields that its sort names are judged (specs/Event.antt).
 #[repr(C)]
-#[derive(Clone, Copy)]
+#[derive(Clone, Copy, Debug, PartialEq, Eq, Default)]
 pub struct Event {
     pub sort: u32,
     pub day: u32,
@@ -35,17 +66,31 @@ pub const MAX_PAYMENTS: u32 = 128;
 
 pub const REQUIRED_DEBT: u64 = 5000;
 
-// What a posted event is answered.
+// What a posted event is answered, as C gets it: the code, 0 where it is accepted, and the value.
 #[repr(C)]
-#[derive(Clone, Copy)]
+#[derive(Clone, Copy, Debug, PartialEq, Eq)]
 pub struct Answer {
     pub code: u8,
     pub value: u64,
 }
 
+impl From<Result<u64, Refusal>> for Answer {
+    ghost from_gives = { λ r a. a ≡ answer_of r };
+
+    fn from(answer: Result<u64, Refusal>) -> Answer {
+        match answer {
+            Ok(value) => Answer { code: 0, value },
+            Err(refusal) => Answer {
+                code: refusal.code(),
+                value: 0,
+            },
+        }
+    }
+}
+
 // A count of payments and the sum of their amounts, in cents.
 #[repr(C)]
-#[derive(Clone, Copy)]
+#[derive(Clone, Copy, Debug, PartialEq, Eq, Default)]
 pub struct Counted {
     pub count: u32,
     pub sum: u64,
@@ -53,7 +98,7 @@ pub struct Counted {
 
 // Energy used, in Wh, and its cost, in cents.
 #[repr(C)]
-#[derive(Clone, Copy)]
+#[derive(Clone, Copy, Debug, PartialEq, Eq, Default)]
 pub struct Used {
     pub wh: u64,
     pub cost: u64,
@@ -62,10 +107,22 @@ pub struct Used {
 // A sum for each charge kind, 1 to 5, in cents.
 pub type KindSums = [u64; CHARGE_KIND_COUNT as usize];
 
-// A month's figures (specs/Months.antt). The code is 3 for a month that holds none of the account's days, and 1 where there is no account;
-// every figure is 0 then.
+// A month's figures (specs/Months.antt).
+#[derive(Clone, Copy, Debug, PartialEq, Eq)]
+pub struct Figures {
+    pub kept: Counted,
+    pub reversed: Counted,
+    pub metered: Used,
+    pub estimated: Used,
+    pub charges: KindSums,
+    // hundredths of a cent per kWh; none where no Wh were used
+    pub average: Option<u64>,
+}
+
+// The same as C gets them. The code is 3 for a month that holds none of the account's days, and 1 where there is no account; every figure is
+// 0 then.
 #[repr(C)]
-#[derive(Clone, Copy)]
+#[derive(Clone, Copy, Debug, PartialEq, Eq, Default)]
 pub struct Summary {
     pub code: u8,
     pub kept: Counted,
@@ -76,6 +133,29 @@ pub struct Summary {
     // hundredths of a cent per kWh
     pub average: u64,
     pub missing: bool,
+}
+
+impl From<Result<Figures, Refusal>> for Summary {
+    ghost from_gives = { λ r s. s ≡ summary_of r };
+
+    fn from(month: Result<Figures, Refusal>) -> Summary {
+        match month {
+            Ok(figures) => Summary {
+                code: 0,
+                kept: figures.kept,
+                reversed: figures.reversed,
+                metered: figures.metered,
+                estimated: figures.estimated,
+                charges: figures.charges,
+                average: figures.average.unwrap_or(0),
+                missing: figures.average.is_none(),
+            },
+            Err(refusal) => Summary {
+                code: refusal.code(),
+                ..Summary::default()
+            },
+        }
+    }
 }
 
 // The figures marked (P): what the ledger shows of each row is what the paper says.

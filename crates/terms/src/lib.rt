@@ -2,7 +2,7 @@
 #![tactic(auto)]
 
 ghost use Rattle.std.specs.Prelude.{◌≡◌};
-ghost use Rattle.terms.specs.Terms.{terms_code};
+ghost use Rattle.terms.specs.Terms.{valid_terms};
 
 use calendar::Date;
 
@@ -27,31 +27,18 @@ pub const MAX_CUTOFF: u32 = 1000;
 
 pub const MAX_SHARE: u32 = 50;
 
-// 0, or 1 where the terms are outside their limits.
-pub fn check(t: Terms) -> u8
-    ensures { result ≡ terms_code t }
-{
-    let opened = t.opened;
-    if !calendar::can_open(opened) {
-        return 1;
+impl Terms {
+    // Whether each is within its limits.
+    #[tactic(auto, unfolding(crate::specs::Terms::valid_terms))]
+    pub fn is_valid(self) -> bool
+        ensures { result ≡ valid_terms self }
+    {
+        let opened = self.opened;
+        calendar::can_open(opened)
+            && (1..=MAX_PRICE).contains(&self.price)
+            && self.connect <= MAX_CONNECT
+            && self.cutoff <= MAX_CUTOFF
+            && self.cutoff <= self.connect
+            && self.share <= MAX_SHARE
     }
-    if t.price < 1 {
-        return 1;
-    }
-    if t.price > MAX_PRICE {
-        return 1;
-    }
-    if t.connect > MAX_CONNECT {
-        return 1;
-    }
-    if t.cutoff > MAX_CUTOFF {
-        return 1;
-    }
-    if t.cutoff > t.connect {
-        return 1;
-    }
-    if t.share > MAX_SHARE {
-        return 1;
-    }
-    0
 }
