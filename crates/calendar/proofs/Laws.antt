@@ -7,11 +7,11 @@ use native.Mathlib.Nat.{le_trans, add-zero}
 use native.Mathlib.Omega.{arith}
 use lib.ListN.{get_or-eq_default}
 use lib.Dec.{leb, ltb, eqb}
+use Rattle.std.specs.Prelude.{Some, None}
 use borrow.Author.Tests.{ltb-true, ltb-false, leb-true, leb-false, eqb-true, eqb-false, le-leb}
 use Rattle.calendar.specs.Calendar.{date, leap_year, month_days, month_length, date_exists, next_of, date_on, total, length_after}
-use Rattle.calendar.specs.Calendar.{months_after, days_after, weekday_after, weekday_of, month_from, opens, is_in_reach, is_day, date_answer}
+use Rattle.calendar.specs.Calendar.{months_after, days_after, weekday_after, weekday_of, month_from, is_date_until, opens, is_in_reach, is_day, date_answer}
 use Rattle.calendar.specs.declared.Date.{Date}
-use Rattle.calendar.specs.declared.Dated.TheVariants as dated
 use Rattle.calendar.proofs.Sums.{decide, and_left, and_right, leb-and, every, every-at, total_mono, Within, within-mono, within-unique}
 
 -- ---- the lengths of the months
@@ -77,7 +77,8 @@ pub record RealTo (y : ℕ) (d : Date) : Type 0 where
   pub real : Real d
   pub until : d.year ≤ y
 
-real-to : (y : ℕ) (d : Date) → leb 2000 d.year && (leb d.year y && date_exists d.year d.month d.day) ≡ true → RealTo y d
+real-to : (y : ℕ) (d : Date) → is_date_until y d ≡ true → RealTo y d
+unfolding is_date_until
 real-to y d e =
     let low = leb-and 2000 d.year _ e in
     let high = leb-and d.year y _ low.1 in
@@ -93,7 +94,7 @@ reached-real d e = real-to 2101 d e
 
 -- and back
 pub real-reached : (d : Date) → Real d → d.year ≤ 2101 → is_in_reach d ≡ true
-unfolding is_in_reach date_exists
+unfolding is_in_reach is_date_until date_exists
 real-reached d r h = simp (le-leb 2000 d.year r.since, le-leb d.year 2101 h, le-leb 1 d.day r.day-low, le-leb d.day (month_length d.year d.month) r.day-high)
 
 pub opens-reached : (d : Date) → opens d ≡ true → is_in_reach d ≡ true
@@ -267,12 +268,12 @@ pub record Answered (o : Date) (k : ℕ) (d : Date) : Type 0 where
   pub is-day : is_day o k ≡ true
   pub date : date_on o k ≡ d
 
-pub answer-on : (o : Date) (k : ℕ) (d : Date) → date_answer o k ≡ dated.On d → Answered o k d
+pub answer-on : (o : Date) (k : ℕ) (d : Date) → date_answer o k ≡ Some d → Answered o k d
 answer-on o k d e = decide (is_day o k)
-    (λ t. let f : dated.On (date_on o k) ≡ dated.On d = rw t at e in record { is-day = t; date = cc })
-    (λ t. let f : dated.Outside ≡ dated.On d = rw t at e in let z : ◌≡◌ {A = ℕ} 0 1 = cc in absurd (omega arith))
+    (λ t. let f : Some (date_on o k) ≡ Some d = rw t at e in record { is-day = t; date = cc })
+    (λ t. let f : None ≡ Some d = rw t at e in absurd (cc))
 
-pub answer-outside : (o : Date) (k : ℕ) → date_answer o k ≡ dated.Outside → is_day o k ≡ false
+pub answer-outside : (o : Date) (k : ℕ) → date_answer o k ≡ None → is_day o k ≡ false
 answer-outside o k e = decide (is_day o k)
-    (λ t. let f : dated.On (date_on o k) ≡ dated.Outside = rw t at e in let z : ◌≡◌ {A = ℕ} 0 1 = cc in absurd (omega arith))
+    (λ t. let f : Some (date_on o k) ≡ None = rw t at e in absurd (cc))
     (λ t. t)

@@ -8,9 +8,8 @@ use native.Mathlib.Omega.{arith}
 use lib.Dec.{leb, ltb, eqb}
 use borrow.Author.Tests.{ltb-true, ltb-false, leb-true, eqb-true, le-leb}
 use Rattle.calendar.specs.Calendar.{date, leap_year, month_days, month_length, date_exists, total, length_after, days_after, date_on}
-use Rattle.calendar.specs.Work.{days_before, year_length, year_taken, InYear}
+use Rattle.calendar.specs.Work.{days_before, year_length, InYear}
 use Rattle.calendar.specs.declared.Date.{Date}
-use Rattle.calendar.specs.declared.Place.{Place}
 use Rattle.calendar.proofs.Sums.{decide, every, every-at, total_mono}
 use Rattle.calendar.proofs.Laws.{Real, RealTo, real, day-real, same-day}
 
@@ -131,35 +130,22 @@ guess-last y left h l =
     let m : left / 32 + 1 + 1 ≡ 13 = omega (arith, guess y left h) in
     rw (m, whole-year (leap_year y)) h
 
--- ---- places: a year and the days since its 1 January
+-- ---- a year and the days since its 1 January
 
-abbrev pub day_of : Place → ℕ
-day_of p = total length_after (12 * (p.year - 2000)) + p.left
+-- the days from 2000-01-01 to a day of a year
+abbrev pub day_in : ℕ → ℕ → ℕ
+day_in y left = total length_after (12 * (y - 2000)) + left
 
--- q is the same day as p, in the same year or the next; `room` says how many days q has beyond its year
-pub record YearTaken (p q : Place) : Type 0 where
-  pub low : p.year ≤ q.year
-  pub high : q.year ≤ p.year + 1
-  pub day : day_of q ≡ day_of p
-  pub room : (n : ℕ) → p.left < year_length p.year + n → q.left < year_length q.year + (n - 365)
-
-pub taken-keeps : (p : Place) → 2000 ≤ p.year → YearTaken p (year_taken p)
-taken-keeps p h = decide (ltb p.left (year_length p.year))
-    (λ t. rw t (record { low = omega arith; high = omega arith; day = refl; room = λ n l. omega (arith, ltb-true p.left (year_length p.year) t) }))
-    (λ t.
-    let b = ltb-false p.left (year_length p.year) t in
-    let e : p.year + 1 - 2000 ≡ p.year - 2000 + 1 = omega arith in
-    let e' : 2000 + (p.year - 2000) ≡ p.year = omega arith in
-    let s = rw e' at (year-sum (p.year - 2000)) in
-    rw t (record {
-      low = omega arith;
-      high = omega arith;
-      day = rw e (omega arith);
-      room = λ n l. omega (arith, year-range (p.year + 1));
-    }))
+-- one whole year taken out of the days leaves the same day
+pub year_taken : (y left : ℕ) → 2000 ≤ y → year_length y ≤ left → day_in (y + 1) (left - year_length y) ≡ day_in y left
+year_taken y left h l =
+    let e : y + 1 - 2000 ≡ y - 2000 + 1 = omega arith in
+    let e' : 2000 + (y - 2000) ≡ y = omega arith in
+    let s = rw e' at (year-sum (y - 2000)) in
+    rw e (omega arith)
 
 -- a date's days in its year
-pub place-of : (d : Date) → Real d → days_after d ≡ total length_after (12 * (d.year - 2000)) + (days_before (leap_year d.year) d.month + (d.day - 1))
+pub place-of : (d : Date) → Real d → days_after d ≡ day_in d.year (days_before (leap_year d.year) d.month + (d.day - 1))
 unfolding days_after
 place-of d r =
     let y : 2000 + (d.year - 2000) ≡ d.year = omega arith in
@@ -174,37 +160,10 @@ place-below d r =
     let b = before-next (leap_year d.year) d.month in
     omega (arith, whole-year (leap_year d.year), before-mono (leap_year d.year) (d.month + 1) 13 (omega arith), r.day-high)
 
--- the date of a place is its day
-record PlaceDay (p : Place) (d : Date) : Type 0 where
-  real : Real d
-  day : days_after d ≡ day_of p
-
-place-day : (p : Place) (d : Date) → 2000 ≤ p.year → InYear p.year p.left d → PlaceDay p d
-place-day p d h i =
-    let r = real d (omega (arith, i.year)) i.real in
-    record { real = r; day = rw (← i.year) (omega (arith, place-of d r, rw (← i.year) at i.rest)) }
-
--- day k, before whole years are taken out of it
-abbrev pub place_of : Date → ℕ → Place
-place_of o k = record { year = o.year; left = days_before (leap_year o.year) o.month + (o.day - 1) + k }
-
-module _ (o : Date) (r : RealTo 2099 o) (k : ℕ) (h : k ≤ 399) where
-  once : YearTaken (place_of o k) (year_taken (place_of o k))
-  once = taken-keeps (place_of o k) r.real.since
-
-  pub once-year : (year_taken (place_of o k)).year ≤ 2101
-  once-year = omega (arith, once.high)
-
-  twice : YearTaken (year_taken (place_of o k)) (year_taken (year_taken (place_of o k)))
-  twice = taken-keeps (year_taken (place_of o k)) (omega (arith, once.low))
-
-  -- two years taken out are enough
-  pub twice-left : (year_taken (year_taken (place_of o k))).left < year_length (year_taken (year_taken (place_of o k))).year
-  twice-left = let l = twice.room 34 (once.room 399 (omega (arith, place-below o r.real))) in omega arith
-
-  -- and what is left is day k
-  pub date-is : (d : Date) → InYear (year_taken (year_taken (place_of o k))).year (year_taken (year_taken (place_of o k))).left d → d ≡ date_on o k
-  date-is d i =
-      let e = place-day (year_taken (year_taken (place_of o k))) d (omega (arith, once.low, twice.low)) i in
-      let k-day = day-real o r.real k in
-      same-day d (date_on o k) e.real k-day.real (omega (arith, place-of o r.real, once.day, twice.day))
+-- the date of a day of a year is that day
+pub date-is : (o d : Date) (k y left : ℕ) → RealTo 2099 o → 2000 ≤ y → day_in y left ≡ days_after o + k → InYear y left d → d ≡ date_on o k
+date-is o d k y left r h e i =
+    let b = real d (omega (arith, i.year)) i.real in
+    let k-day = day-real o r.real k in
+    let p : days_after d ≡ day_in y left = rw (← i.year) (omega (arith, place-of d b, rw (← i.year) at i.rest)) in
+    same-day d (date_on o k) b k-day.real (omega arith)

@@ -1,11 +1,9 @@
 -- The Gregorian calendar, from its rules alone (document 01, "Opening terms").
-use Rattle.std.specs.Prelude.{ℕ, zero, suc, ◌+◌, ◌*◌, ◌-◌, ◌/◌, ◌%◌, ◌≤◌, ◌<◌, ◌≡◌, Bool, true, false, cond, not, ◌&&◌, ◌||◌, [], ◌∷◌, ◌↔◌, get_or, ltb, leb, eqb}
+use Rattle.std.specs.Prelude.{ℕ, zero, suc, ◌+◌, ◌*◌, ◌-◌, ◌/◌, ◌%◌, ◌≤◌, ◌<◌, ◌≡◌, Bool, true, false, cond, not, ◌&&◌, ◌||◌, [], ◌∷◌, ◌↔◌, get_or, ltb, leb, eqb, Option, Some, None}
+use Rattle.core.specs.declared.iter.ranges.Range.{Range}
 use Rattle.calendar.specs.declared.Date.{Date}
-use Rattle.calendar.specs.declared.Dated.{Dated}
-use Rattle.calendar.specs.declared.Dated.TheVariants as dated
-use Rattle.calendar.specs.declared.Numbered.{Numbered}
-use Rattle.calendar.specs.declared.Numbered.TheVariants as numbered
-use Rattle.calendar.specs.declared.Days.{Days}
+use Rattle.calendar.specs.declared.Weekday.{Weekday}
+use Rattle.calendar.specs.declared.Weekday.TheVariants.{Monday, Tuesday, Wednesday, Thursday, Friday, Saturday, Sunday}
 
 abbrev pub date : ℕ → ℕ → ℕ → Date
 date y m d = record { year = y; month = m; day = d }
@@ -74,6 +72,19 @@ sunday = saturday + 1
 abbrev pub no_weekday : ℕ
 no_weekday = sunday + 1
 
+abbrev pub weekday_number : Weekday → ℕ
+weekday_number Monday = 0
+weekday_number Tuesday = 1
+weekday_number Wednesday = 2
+weekday_number Thursday = 3
+weekday_number Friday = 4
+weekday_number Saturday = saturday
+weekday_number Sunday = sunday
+
+abbrev pub weekday_or_none : Option Weekday → ℕ
+weekday_or_none (Some w) = weekday_number w
+weekday_or_none None = no_weekday
+
 -- The weekday n days after 2000-01-01, which was a Saturday.
 unfoldable pub weekday_after : ℕ → ℕ
 weekday_after zero = saturday
@@ -86,13 +97,17 @@ weekday_of d = weekday_after (days_after d)
 unfoldable pub month_from : Date → Date → ℕ
 month_from opened d = (12 * d.year + d.month) - (12 * opened.year + opened.month)
 
+-- A date of the years 2000 to `last`.
+unfoldable pub is_date_until : ℕ → Date → Bool
+is_date_until last d = leb first_year d.year && (leb d.year last && date_exists d.year d.month d.day)
+
 -- A date that can open an account: "a Gregorian date, years 2000 to 2099".
 unfoldable pub opens : Date → Bool
-opens d = leb first_year d.year && (leb d.year last_year && date_exists d.year d.month d.day)
+opens d = is_date_until last_year d
 
 -- The dates that the calendar's code works on: to the end of the year in which the last account ends.
 unfoldable pub is_in_reach : Date → Bool
-is_in_reach d = leb first_year d.year && (leb d.year end_year && date_exists d.year d.month d.day)
+is_in_reach d = is_date_until end_year d
 
 -- ---- what the functions of this crate answer
 
@@ -122,8 +137,8 @@ warning_days = 7
 abbrev pub is_day : Date → ℕ → Bool
 is_day opened k = opens opened && leb k final_day
 
-abbrev pub date_answer : Date → ℕ → Dated
-date_answer opened k = cond (is_day opened k) (dated.On (date_on opened k)) dated.Outside
+abbrev pub date_answer : Date → ℕ → Option Date
+date_answer opened k = cond (is_day opened k) (Some (date_on opened k)) None
 
 -- no weekday where there is no such day
 abbrev pub weekday_on : Date → ℕ → ℕ
@@ -133,15 +148,21 @@ weekday_on opened k = cond (is_day opened k) (weekday_of (date_on opened k)) no_
 abbrev pub month_on : Date → ℕ → ℕ
 month_on opened k = cond (is_day opened k) (month_from opened (date_on opened k)) month_count
 
--- Which of days 0 to 399 a date is.
-abbrev pub DayAnswer : Date → Date → Numbered → Type 0
-DayAnswer opened d (numbered.Day k) = (is_day opened k ≡ true) × (date_on opened k ≡ d)
-DayAnswer opened d numbered.Outside = (k : ℕ) → is_day opened k ≡ true → date_on opened k ≡ d → ⊥
+abbrev pub month_answer : Date → ℕ → Option ℕ
+month_answer opened k = cond (is_day opened k) (Some (month_from opened (date_on opened k))) None
 
--- The days of month m among days 0 to 399: from `from` to the day before `to`. Where there is none, both are 0.
-pub record MonthAnswer (opened : Date) (m : ℕ) (r : Days) : Type 0 where
-  pub order : r.from ≤ r.to
-  pub limit : r.to ≤ day_count
-  pub none : r.from ≡ r.to → r.to ≡ 0
-  pub days : (k : ℕ) → is_day opened k ≡ true → (month_from opened (date_on opened k) ≡ m) ↔ ((r.from ≤ k) × (k < r.to))
-  pub closed : opens opened ≡ false → r.to ≡ 0
+-- Which of days 0 to 399 a date is.
+abbrev pub DayAnswer : Date → Date → Option ℕ → Type 0
+DayAnswer opened d (Some k) = (is_day opened k ≡ true) × (date_on opened k ≡ d)
+DayAnswer opened d None = (k : ℕ) → is_day opened k ≡ true → date_on opened k ≡ d → ⊥
+
+-- The days of month m among days 0 to 399: from `start` to the day before `end`.
+pub record MonthDays (opened : Date) (m : ℕ) (r : Range ℕ) : Type 0 where
+  pub order : r.start < r.end
+  pub limit : r.end ≤ day_count
+  pub days : (k : ℕ) → is_day opened k ≡ true → (month_from opened (date_on opened k) ≡ m) ↔ ((r.start ≤ k) × (k < r.end))
+  pub open_is : opens opened ≡ true
+
+abbrev pub MonthAnswer : Date → ℕ → Option (Range ℕ) → Type 0
+MonthAnswer opened m (Some r) = MonthDays opened m r
+MonthAnswer opened m None = (k : ℕ) → is_day opened k ≡ true → month_from opened (date_on opened k) ≡ m → ⊥

@@ -1,8 +1,7 @@
 -- What the calendar's private functions answer. No promise to others cites these.
-use Rattle.std.specs.Prelude.{ℕ, ◌+◌, ◌-◌, ◌≤◌, min, ◌≡◌, Bool, true, cond, ltb}
+use Rattle.std.specs.Prelude.{ℕ, ◌+◌, ◌-◌, ◌≤◌, min, ◌≡◌, Bool, true, cond}
 use Rattle.calendar.specs.Calendar.{leap_year, month_days, date_exists, total, length_after, months_after, days_after, day_count}
 use Rattle.calendar.specs.declared.Date.{Date}
-use Rattle.calendar.specs.declared.Place.{Place}
 
 -- the days of the year before month m
 unfoldable pub days_before : Bool → ℕ → ℕ
@@ -10,10 +9,6 @@ days_before leap m = total (month_days leap) m
 
 unfoldable pub year_length : ℕ → ℕ
 year_length y = cond (leap_year y) 366 365
-
--- the place with one whole year taken out of its days, where they hold one
-abbrev pub year_taken : Place → Place
-year_taken p = cond (ltb p.left (year_length p.year)) p (record { year = p.year + 1; left = p.left - year_length p.year })
 
 -- r is the date that comes `left` days after 1 January of the year
 pub record InYear (y left : ℕ) (r : Date) : Type 0 where

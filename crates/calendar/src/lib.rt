@@ -2,14 +2,17 @@
 // It uses nothing else. Its promises cite specs/Calendar.antt.
 #![tactic(auto)]
 
-ghost use Rattle.std.specs.Prelude.{◌≡◌, true, ◌+◌, ◌-◌, ◌*◌, ◌≤◌, ◌<◌};
-ghost use Rattle.calendar.specs.Calendar.{leap_year, month_length, date_exists, first_year, end_year, opens, is_in_reach};
-ghost use Rattle.calendar.specs.Calendar.{total, length_after, days_after, month_from};
-ghost use Rattle.calendar.specs.Calendar.{next_answer, weekday_answer, month_count, date_answer, weekday_on, month_on, DayAnswer, MonthAnswer};
-ghost use Rattle.calendar.specs.Work.{days_before, year_length, year_taken, InYear, month_start};
+ghost use Rattle.std.specs.Prelude.{◌≡◌, true, ◌+◌, ◌-◌, ◌*◌, ◌≤◌, ◌<◌, nat_le};
+ghost use Rattle.calendar.specs.Calendar.{leap_year, month_length, date_exists, first_year, last_year, end_year, is_date_until, opens, is_in_reach};
+ghost use Rattle.calendar.specs.Calendar.{total, length_after, months_after, days_after, month_from};
+ghost use Rattle.calendar.specs.Calendar.{saturday, weekday_number, weekday_or_none, weekday_after};
+ghost use Rattle.calendar.specs.Calendar.{next_answer, weekday_answer, month_count, date_answer, weekday_on, month_answer, DayAnswer, MonthAnswer};
+ghost use Rattle.calendar.specs.Work.{days_before, year_length, InYear, month_start};
+
+use std::ops::Range;
 
 #[repr(C)]
-#[derive(Clone, Copy)]
+#[derive(Clone, Copy, Debug, PartialEq, Eq, Default)]
 pub struct Date {
     pub year: u32,
     pub month: u32,
@@ -30,95 +33,83 @@ pub const LAST_YEAR: u32 = 2099;
 
 const END_YEAR: u32 = LAST_YEAR + 2;
 
-// The weekdays: Monday is 0, Saturday 5, Sunday 6; 7 is none.
-pub const SATURDAY: u32 = 5;
+#[derive(Clone, Copy, Debug, PartialEq, Eq)]
+pub enum Weekday {
+    Monday,
+    Tuesday,
+    Wednesday,
+    Thursday,
+    Friday,
+    Saturday,
+    Sunday,
+}
 
-pub const SUNDAY: u32 = SATURDAY + 1;
+// The weekdays' numbers: Monday is 0.
+pub const SATURDAY: u32 = Weekday::Saturday as u32;
 
-const NO_WEEKDAY: u32 = SUNDAY + 1;
+pub const SUNDAY: u32 = Weekday::Sunday as u32;
 
 // "1 ≤ x − w ≤ 7": for so many days after its own a warning serves.
 pub const WARNING_DAYS: u32 = 7;
 
-// The date of a day, or that the account has no such day.
-#[derive(Clone, Copy)]
-pub enum Dated {
-    On(Date),
-    Outside,
-}
+impl Weekday {
+    // 0 for Monday to 6 for Sunday.
+    pub fn number(self) -> u32
+        ensures { result ≡ weekday_number self }
+    {
+        self as u32
+    }
 
-// The number of a day, or that the date is none of days 0 to 399.
-#[derive(Clone, Copy)]
-pub enum Numbered {
-    Day(u32),
-    Outside,
-}
-
-// Days `from` to the day before `to`.
-#[derive(Clone, Copy)]
-pub struct Days {
-    pub from: u32,
-    pub to: u32,
+    pub fn is_weekend(self) -> bool
+        ensures { result ≡ nat_le saturday (weekday_number self) }
+    {
+        self == Weekday::Saturday || self == Weekday::Sunday
+    }
 }
 
 fn leap(year: u32) -> bool
     ensures { result ≡ leap_year year }
 {
-    if year % 4 != 0 {
-        return false;
-    }
-    if year % 100 != 0 {
-        return true;
-    }
-    year % 400 == 0
+    year % 4 == 0 && (year % 100 != 0 || year % 400 == 0)
 }
 
-const COMMON: [u32; 13] = [0, 31, 28, 31, 30, 31, 30, 31, 31, 30, 31, 30, 31];
-
-const LEAP: [u32; 13] = [0, 31, 29, 31, 30, 31, 30, 31, 31, 30, 31, 30, 31];
-
+// Any other number is no month, and has no days.
 fn month_length(year: u32, month: u32) -> u32
     ensures { result ≡ month_length year month }
 {
-    if month > 12 {
-        return 0;
+    match month {
+        1 | 3 | 5 | 7 | 8 | 10 | 12 => 31,
+        4 | 6 | 9 | 11 => 30,
+        2 if leap(year) => 29,
+        2 => 28,
+        _ => 0,
     }
-    let m = month as usize;
-    if leap(year) { LEAP[m] } else { COMMON[m] }
 }
 
 // Whether year, month and day are a date.
 pub fn exists(year: u32, month: u32, day: u32) -> bool
     ensures { result ≡ date_exists year month day }
 {
-    if day < 1 {
-        return false;
-    }
-    day <= month_length(year, month)
+    (1..=month_length(year, month)).contains(&day)
 }
 
+// The days of a common year before a month.
 const BEFORE: [u32; 13] = [0, 0, 31, 59, 90, 120, 151, 181, 212, 243, 273, 304, 334];
-
-const BEFORE_LEAP: [u32; 13] = [0, 0, 31, 60, 91, 121, 152, 182, 213, 244, 274, 305, 335];
 
 // The days of the year before a month.
 fn days_before(leap: bool, month: u32) -> u32
     requires { month ≤ 12 }
     ensures { result ≡ days_before leap month }
 {
-    let m = month as usize;
-    if leap { BEFORE_LEAP[m] } else { BEFORE[m] }
+    BEFORE[month as usize] + (leap && month > 2) as u32
 }
 
-// The days from 2000-01-01 to 1 January of the year n years later.
+// The days from 2000-01-01 to 1 January of the year n years later: 2100 is no leap year.
 fn years_before(n: u32) -> u32
     requires { n ≤ end_year + 1 - first_year }
     ensures { result ≡ total length_after (12 * n) }
 {
-    if n > 100 {
-        return n * 365 + (n + 3) / 4 - 1;
-    }
-    n * 365 + (n + 3) / 4
+    n * 365 + (n + 3) / 4 - (n > 100) as u32
 }
 
 // The days from 2000-01-01 to the first of the month i months after January 2000.
@@ -130,36 +121,54 @@ fn month_after(i: u32) -> u32
     years_before(n) + days_before(leap(FIRST_YEAR + n), i % 12 + 1)
 }
 
+// How many months after January 2000 the date's month is.
+fn months_after(d: Date) -> u32
+    requires { is_in_reach d ≡ true }
+    ensures { result ≡ months_after d }
+{
+    12 * (d.year - FIRST_YEAR) + (d.month - 1)
+}
+
 fn days_after(d: Date) -> u32
     requires { is_in_reach d ≡ true }
     ensures { result ≡ days_after d }
 {
-    month_after(12 * (d.year - FIRST_YEAR) + (d.month - 1)) + (d.day - 1)
+    month_after(months_after(d)) + (d.day - 1)
+}
+
+// Whether it is a date of the years 2000 to `last`.
+fn is_date_until(d: Date, last: u32) -> bool
+    ensures { result ≡ is_date_until last d }
+{
+    (FIRST_YEAR..=last).contains(&d.year) && exists(d.year, d.month, d.day)
 }
 
 fn in_reach(d: Date) -> bool
     ensures { result ≡ is_in_reach d }
 {
-    if d.year < FIRST_YEAR {
-        return false;
-    }
-    if d.year > END_YEAR {
-        return false;
-    }
-    exists(d.year, d.month, d.day)
+    is_date_until(d, END_YEAR)
 }
 
 // Whether the date can open an account.
 pub fn can_open(d: Date) -> bool
     ensures { result ≡ opens d }
 {
-    if d.year < FIRST_YEAR {
-        return false;
+    is_date_until(d, LAST_YEAR)
+}
+
+// The weekday n days after 2000-01-01, which was a Saturday.
+fn weekday_after(n: u32) -> Weekday
+    ensures { weekday_number result ≡ weekday_after n }
+{
+    match n % 7 {
+        0 => Weekday::Saturday,
+        1 => Weekday::Sunday,
+        2 => Weekday::Monday,
+        3 => Weekday::Tuesday,
+        4 => Weekday::Wednesday,
+        5 => Weekday::Thursday,
+        _ => Weekday::Friday,
     }
-    if d.year > LAST_YEAR {
-        return false;
-    }
-    exists(d.year, d.month, d.day)
 }
 
 impl Date {
@@ -172,16 +181,15 @@ impl Date {
         }
         if self.day < month_length(self.year, self.month) {
             return Date {
-                year: self.year,
-                month: self.month,
                 day: self.day + 1,
+                ..self
             };
         }
         if self.month < 12 {
             return Date {
-                year: self.year,
                 month: self.month + 1,
                 day: 1,
+                ..self
             };
         }
         Date {
@@ -191,14 +199,14 @@ impl Date {
         }
     }
 
-    // 0 for Monday to 6 for Sunday.
-    pub fn weekday(self) -> u32
-        ensures { result ≡ weekday_answer self }
+    // None of a record that is no date from 2000 to 2101.
+    pub fn weekday(self) -> Option<Weekday>
+        ensures { weekday_or_none result ≡ weekday_answer self }
     {
         if !in_reach(self) {
-            return NO_WEEKDAY;
+            return None;
         }
-        (days_after(self) + SATURDAY) % 7
+        Some(weekday_after(days_after(self)))
     }
 
     // The number of the date's month, counted from that of the opening date.
@@ -206,11 +214,7 @@ impl Date {
         ensures { result ≡ month_from opened self }
     {
         let at = 12 * self.year as u64 + self.month as u64;
-        let first = 12 * opened.year as u64 + opened.month as u64;
-        if at < first {
-            return 0;
-        }
-        at - first
+        at.saturating_sub(12 * opened.year as u64 + opened.month as u64)
     }
 }
 
@@ -220,109 +224,63 @@ fn year_length(year: u32) -> u32
     if leap(year) { 366 } else { 365 }
 }
 
-// A day as a year and the days since its 1 January.
-#[derive(Clone, Copy)]
-struct Place {
-    year: u32,
-    left: u32,
-}
-
-// The place with one whole year taken out of its days, where they hold one.
-fn take_year(p: Place) -> Place
-    requires { p.year ≤ end_year }
-    ensures { result ≡ year_taken p }
-{
-    let n = year_length(p.year);
-    if p.left < n {
-        return p;
-    }
-    Place {
-        year: p.year + 1,
-        left: p.left - n,
-    }
-}
-
 // The date of a day of a year.
 fn date_in(year: u32, left: u32) -> Date
     requires { left < year_length year }
     ensures { InYear year left result }
 {
     let l = leap(year);
-    let m = left / 32 + 1;
-    if m < 12 {
-        let next = days_before(l, m + 1);
-        if next <= left {
-            return Date {
-                year,
-                month: m + 1,
-                day: left - next + 1,
-            };
-        }
+    let mut month = left / 32 + 1;
+    if month < 12 && days_before(l, month + 1) <= left {
+        month += 1;
     }
     Date {
         year,
-        month: m,
-        day: left - days_before(l, m) + 1,
+        month,
+        day: left - days_before(l, month) + 1,
     }
 }
 
 // The date of day k.
-pub fn date_of(opened: Date, k: u32) -> Dated
+pub fn date_of(opened: Date, k: u32) -> Option<Date>
     ensures { result ≡ date_answer opened k }
 {
-    if !can_open(opened) {
-        return Dated::Outside;
+    if !can_open(opened) || k > FINAL_DAY {
+        return None;
     }
-    if k > FINAL_DAY {
-        return Dated::Outside;
+    let days = days_before(leap(opened.year), opened.month) + (opened.day - 1) + k;
+    let mut year = opened.year;
+    let mut left = days;
+    while left >= year_length(year) {
+        left -= year_length(year);
+        year += 1;
     }
-    let left = days_before(leap(opened.year), opened.month) + (opened.day - 1) + k;
-    let p = take_year(take_year(Place {
-        year: opened.year,
-        left,
-    }));
-    Dated::On(date_in(p.year, p.left))
+    Some(date_in(year, left))
 }
 
-// The weekday of day k, 0 for Monday to 6 for Sunday.
-pub fn weekday_of(opened: Date, k: u32) -> u32
-    ensures { result ≡ weekday_on opened k }
+// The weekday of day k.
+pub fn weekday_of(opened: Date, k: u32) -> Option<Weekday>
+    ensures { weekday_or_none result ≡ weekday_on opened k }
 {
-    match date_of(opened, k) {
-        Dated::On(d) => d.weekday(),
-        Dated::Outside => NO_WEEKDAY,
-    }
+    date_of(opened, k)?.weekday()
 }
 
 // The number of day k's month, 0 for the opening month to 14.
-pub fn month_of(opened: Date, k: u32) -> u32
-    ensures { result ≡ month_on opened k }
+pub fn month_of(opened: Date, k: u32) -> Option<u32>
+    ensures { result ≡ month_answer opened k }
 {
-    match date_of(opened, k) {
-        Dated::On(d) => d.month_from(opened) as u32,
-        Dated::Outside => MONTH_COUNT,
-    }
+    Some(date_of(opened, k)?.month_from(opened) as u32)
 }
 
 // Which day a date is.
-pub fn day_of(opened: Date, d: Date) -> Numbered
+pub fn day_of(opened: Date, d: Date) -> Option<u32>
     ensures { DayAnswer opened d result }
 {
-    if !can_open(opened) {
-        return Numbered::Outside;
+    if !can_open(opened) || !in_reach(d) {
+        return None;
     }
-    if !in_reach(d) {
-        return Numbered::Outside;
-    }
-    let first = days_after(opened);
-    let at = days_after(d);
-    if at < first {
-        return Numbered::Outside;
-    }
-    if at - first > FINAL_DAY {
-        return Numbered::Outside;
-    }
-    Numbered::Day(at - first)
+    let k = days_after(d).checked_sub(days_after(opened))?;
+    (k <= FINAL_DAY).then_some(k)
 }
 
 // The first of days 0 to 399 that lies in month m or later, or 400.
@@ -331,30 +289,18 @@ fn month_start(opened: Date, m: u32) -> u32
     ensures { result ≡ month_start opened m }
 {
     let first = days_after(opened);
-    let at = month_after(12 * (opened.year - FIRST_YEAR) + (opened.month - 1) + m);
-    if at < first {
-        return 0;
-    }
-    if at - first > DAY_COUNT {
-        return DAY_COUNT;
-    }
-    at - first
+    month_after(months_after(opened) + m)
+        .saturating_sub(first)
+        .min(DAY_COUNT)
 }
 
-// The days of month m, counted from the opening month.
-pub fn days_of(opened: Date, m: u32) -> Days
+// The days of month m, counted from the opening month, where it has any.
+pub fn days_of(opened: Date, m: u32) -> Option<Range<u32>>
     ensures { MonthAnswer opened m result }
 {
-    if !can_open(opened) {
-        return Days { from: 0, to: 0 };
+    if !can_open(opened) || m >= MONTH_COUNT {
+        return None;
     }
-    if m >= MONTH_COUNT {
-        return Days { from: 0, to: 0 };
-    }
-    let from = month_start(opened, m);
-    let to = month_start(opened, m + 1);
-    if from == to {
-        return Days { from: 0, to: 0 };
-    }
-    Days { from, to }
+    let days = month_start(opened, m)..month_start(opened, m + 1);
+    (days.start < days.end).then_some(days)
 }

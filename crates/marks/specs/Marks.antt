@@ -1,9 +1,7 @@
 -- One byte of marks a day, and one of warnings.
-use Rattle.std.specs.Prelude.{ℕ, zero, suc, ◌+◌, ◌-◌, Bool, true, false, cond, not, ◌&&◌, ◌||◌, List, get_or, set, ltb, leb, eqb}
+use Rattle.std.specs.Prelude.{ℕ, zero, suc, ◌+◌, ◌-◌, Bool, true, false, cond, not, ◌&&◌, ◌||◌, List, get_or, set, ltb, leb, eqb, Option, Some, None}
 use Rattle.std.specs.Int.Bits.{bit_and, bit_or}
 use Rattle.calendar.specs.Calendar.{saturday, sunday, final_day, warning_days}
-use Rattle.marks.specs.declared.Found.{Found}
-use Rattle.marks.specs.declared.Found.TheVariants.{At, Missing}
 
 -- the bit of a mark kind in a day's byte; none for a number that is no kind
 abbrev pub mark_bit : ℕ → ℕ
@@ -16,15 +14,15 @@ mark_range marks bit from (suc n) =
     set (mark_range marks bit from n) (from + n) (bit_or (get_or (mark_range marks bit from n) (from + n) 0) bit)
 
 -- the newest of the n days before day d whose byte is 1
-unfoldable pub latest_of : List ℕ → ℕ → ℕ → Found
-latest_of warned zero zero = Missing
-latest_of warned (suc d) zero = Missing
-latest_of warned zero (suc n) = Missing
-latest_of warned (suc d) (suc n) = cond (eqb (get_or warned d 0) 1) (At d) (latest_of warned d n)
+unfoldable pub latest_of : List ℕ → ℕ → ℕ → Option ℕ
+latest_of warned zero zero = None
+latest_of warned (suc d) zero = None
+latest_of warned zero (suc n) = None
+latest_of warned (suc d) (suc n) = cond (eqb (get_or warned d 0) 1) (Some d) (latest_of warned d n)
 
-abbrev pub is_missing : Found → Bool
-is_missing (At d) = false
-is_missing Missing = true
+abbrev pub is_missing : Option ℕ → Bool
+is_missing (Some d) = false
+is_missing None = true
 
 -- the weekday before w
 abbrev pub day_before : ℕ → ℕ
@@ -52,8 +50,8 @@ unfoldable pub barring_on : List ℕ → ℕ → Bool
 barring_on marks d = cond (leb d final_day) (not (eqb (bit_and (get_or marks d 0) 7) 0)) false
 
 -- the newest warning of the seven days before day x: "1 ≤ x − w ≤ 7"
-unfoldable pub latest_warning : List ℕ → ℕ → Found
-latest_warning warned x = cond (leb x final_day) (latest_of warned x warning_days) Missing
+unfoldable pub latest_warning : List ℕ → ℕ → Option ℕ
+latest_warning warned x = cond (leb x final_day) (latest_of warned x warning_days) None
 
 -- whether some weather day has at most one business day after it up to day x, whose weekday is w
 unfoldable pub weather_near : List ℕ → ℕ → ℕ → Bool
