@@ -1,2 +1,2 @@
 pub mod Scanner
-pub mod Places
+pub mod Values

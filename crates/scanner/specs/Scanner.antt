@@ -1,16 +1,11 @@
 -- The lines of an event text, over bytes (document 01, "Event text"): their keys and values, numbers, dates and words.
-use Rattle.std.specs.Prelude.{ℕ, ◌+◌, ◌*◌, ◌-◌, ◌≤◌, ◌≡◌, Bool, true, false, cond, not, ◌&&◌, ◌||◌, List, [], ◌∷◌, ◌++◌, length, get_or, take, drop, leb, eqb}
+use Rattle.std.specs.Prelude.{ℕ, ◌+◌, ◌*◌, ◌-◌, ◌≤◌, ◌≡◌, Bool, true, false, cond, not, ◌&&◌, ◌||◌, List, [], ◌∷◌, ◌++◌, length, get_or, leb, eqb, Option, Some, None}
+use Rattle.std.specs.Borrow.{Bor}
 use Prim.Native.Char.{code}
 use Prim.Native.String as text
 use Prim.Native.String.{String}
 use Rattle.calendar.specs.declared.Date.{Date}
 use Rattle.terms.specs.Terms.{within}
-use Rattle.scanner.specs.declared.ValueRead.{ValueRead}
-use Rattle.scanner.specs.declared.ValueRead.TheVariants as value_read
-use Rattle.scanner.specs.declared.NumberRead.{NumberRead}
-use Rattle.scanner.specs.declared.NumberRead.TheVariants as number_read
-use Rattle.scanner.specs.declared.DateRead.{DateRead}
-use Rattle.scanner.specs.declared.DateRead.TheVariants as date-read
 
 -- A word as the paper prints it, by its bytes.
 abbrev pub bytes : String → List ℕ
@@ -110,21 +105,13 @@ same [] (b ∷ s) = false
 same (p ∷ ps) [] = false
 same (p ∷ ps) (b ∷ s) = eqb p b && same ps s
 
--- ---- what is read, by places in the text
+-- ---- what a function answers: what it read and the text's rest, or none where the text breaks the form
 
--- the bytes from one place to the one before another
-abbrev pub between : List ℕ → ℕ → ℕ → List ℕ
-between s from end = take (end - from) (drop from s)
+abbrev pub IsRead : {A : Type 0} → Read A → Option (A × Bor (List ℕ)) → Type 0
+IsRead r (Some p) = r ≡ got p.0 p.1.now
+IsRead r None = r ≡ broken
 
--- the value of the line at a place: where it starts and ends, and what follows the line
-abbrev pub ValueAt : List ℕ → List ℕ → ℕ → ValueRead → Type 0
-ValueAt key s at (value_read.Got from end next) = (read_value key (drop at s) ≡ got (between s from end) (drop next s)) × (from ≤ end) × (end ≤ length s) × (next ≤ length s) × (next ≡ end + 1)
-ValueAt key s at value_read.Broken = read_value key (drop at s) ≡ broken
-
-abbrev pub NumberAt : List ℕ → List ℕ → ℕ → NumberRead → Type 0
-NumberAt key s at (number_read.Got n next) = (read_number key (drop at s) ≡ got n (drop next s)) × (next ≤ length s)
-NumberAt key s at number_read.Broken = read_number key (drop at s) ≡ broken
-
-abbrev pub DateAt : List ℕ → List ℕ → ℕ → DateRead → Type 0
-DateAt key s at (date-read.Got d next) = (read_date key (drop at s) ≡ got d (drop next s)) × (next ≤ length s)
-DateAt key s at date-read.Broken = read_date key (drop at s) ≡ broken
+-- the same for a value, which is a part of the text too
+abbrev pub IsValueRead : Read (List ℕ) → Option (Bor (List ℕ) × Bor (List ℕ)) → Type 0
+IsValueRead r (Some p) = r ≡ got p.0.now p.1.now
+IsValueRead r None = r ≡ broken

@@ -1,240 +1,85 @@
-// The lines of an event text: a line's key and its value, and a value as a number, a date or a word.
+// The lines of an event text: a line's key and its value, and a value as a number or a date. Each function reads from the start of a text and
+// answers what it read with the text's rest, or none where the text breaks the form.
 // It uses the calendar's date, and in its definitions the terms' `within`. Its promises cite specs/Scanner.antt, and inside the crate
-// specs/Places.antt.
+// specs/Values.antt.
 #![tactic(auto)]
 
-ghost use Rattle.std.specs.Prelude.{◌≡◌, ◌+◌, ◌≤◌, length};
-ghost use Rattle.scanner.specs.Scanner.{same as sameBytes, ValueAt, NumberAt, DateAt};
-ghost use Rattle.scanner.specs.Places.{digit_of, two_digits_at, date_of, StartAt, FeedAt, NumberFrom};
+ghost use Rattle.std.specs.Prelude.{◌≡◌};
+ghost use Rattle.scanner.specs.Scanner.{IsRead, IsValueRead, read_value, read_number, read_date};
+ghost use Rattle.scanner.specs.Values.{digit_of, two_digits_of, number_of, date_of};
 
 use calendar::Date;
 
-// A place in the text, or that there is none.
-#[derive(Clone, Copy)]
-enum Position {
-    At(usize),
-    Missing,
-}
-
-// The value of the line at a place: its bytes are those from `from` on, its line feed stands at `end`, and `next` is what follows.
-#[derive(Clone, Copy)]
-pub enum ValueRead {
-    Got {
-        from: usize,
-        end: usize,
-        next: usize,
-    },
-    Broken,
-}
-
-#[derive(Clone, Copy)]
-pub enum NumberRead {
-    Got { value: u32, next: usize },
-    Broken,
-}
-
-#[derive(Clone, Copy)]
-pub enum DateRead {
-    Got { date: Date, next: usize },
-    Broken,
-}
-
 // ---- lines
 
-// The first line feed from `at` on.
-fn line_end(text: &[u8], at: usize) -> Position
-    ensures { FeedAt text.now at result }
+// The value of the first line, whose key this is to be.
+pub fn read_value<'a>(text: &'a [u8], key: &[u8]) -> Option<(&'a [u8], &'a [u8])>
+    ensures { IsValueRead (read_value key.now text.now) result }
 {
-    let mut i = at;
-    while i < text.len() {
-        if text[i] == b'\n' {
-            return Position::At(i);
-        }
-        i += 1;
-    }
-    Position::Missing
-}
-
-// Where the value of the line at `at` starts, if its key is this.
-fn value_start(text: &[u8], at: usize, key: &[u8]) -> Position
-    ensures { StartAt key.now text.now at result }
-{
-    let mut i = 0;
-    let mut j = at;
-    while i < key.len() {
-        if j >= text.len() {
-            return Position::Missing;
-        }
-        if text[j] != key[i] {
-            return Position::Missing;
-        }
-        i += 1;
-        j += 1;
-    }
-    if j >= text.len() {
-        return Position::Missing;
-    }
-    if text[j] != b'=' {
-        return Position::Missing;
-    }
-    Position::At(j + 1)
-}
-
-// The value of the line at `at`, whose key this is to be.
-pub fn read_value(text: &[u8], at: usize, key: &[u8]) -> ValueRead
-    ensures { ValueAt key.now text.now at result }
-{
-    let Position::At(from) = value_start(text, at, key) else {
-        return ValueRead::Broken;
-    };
-    let Position::At(end) = line_end(text, from) else {
-        return ValueRead::Broken;
-    };
-    let next = end + 1;
-    ValueRead::Got { from, end, next }
+    let rest = text.strip_prefix(key)?.strip_prefix(b"=")?;
+    let end = rest.iter().position(|byte| *byte == b'\n')?;
+    Some((&rest[..end], &rest[end + 1..]))
 }
 
 // ---- numbers
 
-// "at most 4,294,967,295"
-const MAX_NUMBER: u64 = 4294967295;
-
-// The digit that a byte is, 10 for none.
-fn digit(byte: u8) -> u64
+fn digit(byte: u8) -> Option<u32>
     ensures { result ≡ digit_of byte }
 {
-    if byte < b'0' {
-        return 10;
+    match byte {
+        b'0'..=b'9' => Some(u32::from(byte - b'0')),
+        _ => None,
     }
-    if byte > b'9' {
-        return 10;
-    }
-    byte as u64 - 48
 }
 
-// The number from `from` on, up to the line feed.
-fn number_from(text: &[u8], from: usize) -> NumberRead
-    ensures { NumberFrom text.now from result }
+// "digits without sign or leading zero, zero being `0`, at most 4,294,967,295": those that a `u32` holds.
+fn number_of(value: &[u8]) -> Option<u32>
+    ensures { result ≡ number_of value.now }
 {
-    let mut n: u64 = 0;
-    let mut i = from;
-    while i < text.len() {
-        let byte = text[i];
-        let d = digit(byte);
-        if d > 9 {
-            if byte != b'\n' {
-                return NumberRead::Broken;
-            }
-            if i == from {
-                return NumberRead::Broken;
-            }
-            return NumberRead::Got {
-                value: n as u32,
-                next: i + 1,
-            };
-        }
-        // nothing follows a leading zero
-        if n == 0 {
-            if i > from {
-                return NumberRead::Broken;
-            }
-        }
-        n = n * 10 + d;
-        if n > MAX_NUMBER {
-            return NumberRead::Broken;
-        }
-        i += 1;
+    if let [] | [b'0', _, ..] = value {
+        return None;
     }
-    NumberRead::Broken
+    let mut number: u32 = 0;
+    for byte in value {
+        number = number.checked_mul(10)?.checked_add(digit(*byte)?)?;
+    }
+    Some(number)
 }
 
-pub fn read_number(text: &[u8], at: usize, key: &[u8]) -> NumberRead
-    ensures { NumberAt key.now text.now at result }
+pub fn read_number<'a>(text: &'a [u8], key: &[u8]) -> Option<(u32, &'a [u8])>
+    ensures { IsRead (read_number key.now text.now) result }
 {
-    let Position::At(from) = value_start(text, at, key) else {
-        return NumberRead::Broken;
-    };
-    number_from(text, from)
+    let (value, rest) = read_value(text, key)?;
+    Some((number_of(value)?, rest))
 }
 
 // ---- dates
 
-// The number that the two bytes at a place are, 100 for none.
-fn two_digits(value: &[u8], i: usize) -> u32
-    requires { i + 2 ≤ length value.now }
-    ensures { result ≡ two_digits_at value.now i }
+// The number of two digits.
+fn two_digits(tens: u8, units: u8) -> Option<u32>
+    ensures { result ≡ two_digits_of tens units }
 {
-    let tens = digit(value[i]);
-    let units = digit(value[i + 1]);
-    if tens > 9 {
-        return 100;
-    }
-    if units > 9 {
-        return 100;
-    }
-    (tens * 10 + units) as u32
+    Some(digit(tens)? * 10 + digit(units)?)
 }
 
-// The date that a value is, YYYY-MM-DD of any digits, and what follows its line.
-fn date_of(value: &[u8], next: usize) -> DateRead
-    ensures { result ≡ date_of value.now next }
+// "Dates are YYYY-MM-DD": any digits.
+fn date_of(value: &[u8]) -> Option<Date>
+    ensures { result ≡ date_of value.now }
 {
-    if value.len() != 10 {
-        return DateRead::Broken;
-    }
-    if value[4] != b'-' {
-        return DateRead::Broken;
-    }
-    if value[7] != b'-' {
-        return DateRead::Broken;
-    }
-    let century = two_digits(value, 0);
-    if century > 99 {
-        return DateRead::Broken;
-    }
-    let years = two_digits(value, 2);
-    if years > 99 {
-        return DateRead::Broken;
-    }
-    let month = two_digits(value, 5);
-    if month > 99 {
-        return DateRead::Broken;
-    }
-    let day = two_digits(value, 8);
-    if day > 99 {
-        return DateRead::Broken;
-    }
-    let year = century * 100 + years;
-    DateRead::Got {
-        date: Date { year, month, day },
-        next,
-    }
-}
-
-pub fn read_date(text: &[u8], at: usize, key: &[u8]) -> DateRead
-    ensures { DateAt key.now text.now at result }
-{
-    let ValueRead::Got { from, end, next } = read_value(text, at, key) else {
-        return DateRead::Broken;
+    let [y0, y1, y2, y3, b'-', m0, m1, b'-', d0, d1] = *value else {
+        return None;
     };
-    date_of(&text[from..end], next)
+    let century = two_digits(y0, y1)?;
+    let years = two_digits(y2, y3)?;
+    let month = two_digits(m0, m1)?;
+    let day = two_digits(d0, d1)?;
+    let year = century * 100 + years;
+    Some(Date { year, month, day })
 }
 
-// ---- words
-
-// Whether the value is the word.
-pub fn same(value: &[u8], word: &[u8]) -> bool
-    ensures { result ≡ sameBytes word.now value.now }
+pub fn read_date<'a>(text: &'a [u8], key: &[u8]) -> Option<(Date, &'a [u8])>
+    ensures { IsRead (read_date key.now text.now) result }
 {
-    if value.len() != word.len() {
-        return false;
-    }
-    let mut i = 0;
-    while i < word.len() {
-        if word[i] != value[i] {
-            return false;
-        }
-        i += 1;
-    }
-    true
+    let (value, rest) = read_value(text, key)?;
+    Some((date_of(value)?, rest))
 }

@@ -1,2 +1,2 @@
 pub mod Text
-pub mod Places
+pub mod Words

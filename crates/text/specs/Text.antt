@@ -1,16 +1,10 @@
 -- The form of an event text, over bytes (document 01, "Event text"): its terms and its events, line by line.
-use Rattle.std.specs.Prelude.{ℕ, ◌+◌, ◌≤◌, ◌≡◌, Bool, true, cond, List, [], ◌∷◌, length, drop, eqb}
+use Rattle.std.specs.Prelude.{ℕ, Bool, true, cond, List, [], ◌∷◌, eqb}
 use Prim.Native.String.{String}
 use Rattle.calendar.specs.declared.Date.{Date}
 use Rattle.terms.specs.declared.Terms.{Terms}
 use Rattle.ledger.specs.declared.Event.{Event}
 use Rattle.scanner.specs.Scanner.{bytes, Read, got, broken, then, read_value, read_number, read_date, same}
-use Rattle.text.specs.declared.Field.{Field}
-use Rattle.text.specs.declared.Field.TheVariants.{Amount, Number, Kind, Usage, Wh, From, To}
-use Rattle.text.specs.declared.TermsRead.{TermsRead}
-use Rattle.text.specs.declared.TermsRead.TheVariants as terms-read
-use Rattle.text.specs.declared.EventRead.{EventRead}
-use Rattle.text.specs.declared.EventRead.TheVariants as event-read
 
 -- "exceeds 65,536 bytes": those of the longest text
 abbrev pub max_text : ℕ
@@ -28,6 +22,16 @@ read_terms s =
     got (record { opened = o; price = p; connect = c; cutoff = f; share = h }) s₅)))))
 
 -- ---- the sorts of events
+
+-- The fields of the events.
+pub data Field : Type 0 where
+  Amount : Field
+  Number : Field
+  Kind : Field
+  Usage : Field
+  Wh : Field
+  From : Field
+  To : Field
 
 -- A line of an event: its key, the field that keeps its number, and whether it stands there, by the event read so far.
 pub record FieldLine : Type 0 where
@@ -127,15 +131,3 @@ unfoldable pub read_event : List ℕ → Read Event
 read_event s =
     then (read_number (bytes "day") s) (λ (d : ℕ) (s₁ : List ℕ).
     then (read_sort s₁) (λ (k : ℕ) (s₂ : List ℕ). read_fields (fields_in sorts k) (event_of d k) s₂))
-
--- ---- what is read, by places in the text
-
--- the terms at the start of the text, and the place of what follows
-abbrev pub TermsAt : List ℕ → TermsRead → Type 0
-TermsAt s (terms-read.Got t next) = (read_terms s ≡ got t (drop next s)) × (next ≤ length s)
-TermsAt s terms-read.Broken = read_terms s ≡ broken
-
--- The event at a place, and the place of what follows. The shortest event, `day=0` and `do=warn`, has 14 bytes.
-abbrev pub EventAt : List ℕ → ℕ → EventRead → Type 0
-EventAt s at (event-read.Got e next) = (read_event (drop at s) ≡ got e (drop next s)) × (at + 14 ≤ next) × (next ≤ length s)
-EventAt s at event-read.Broken = read_event (drop at s) ≡ broken

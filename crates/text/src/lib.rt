@@ -1,74 +1,30 @@
-// Event text: the terms and one event, read from its lines.
+// Event text: the terms and one event, read from its lines. Each function reads from the start of a text and answers what it read with the text's
+// rest, or none where the text breaks the form.
 // It uses the scanner of the lines, the ledger's event, the terms and the calendar's date. Its promises cite specs/Text.antt, and inside the
-// crate specs/Places.antt.
+// crate specs/Words.antt.
 #![tactic(auto)]
 
-ghost use Rattle.std.specs.Prelude.{◌≡◌, [], ◌∷◌, ◌⊎◌, ◌≤◌, length};
-ghost use Rattle.text.specs.Text.{TermsAt, EventAt, field_line, sorts, sort_in, fields_in, stored};
-ghost use Rattle.text.specs.Places.{found_or, SortAt, FieldsAt, NextAt};
+ghost use Rattle.std.specs.Prelude.{◌≡◌, ◌+◌, ◌≤◌, length, IfSome};
+ghost use Rattle.scanner.specs.Scanner.{IsRead};
+ghost use Rattle.text.specs.Text.{read_terms, sorts, fields_in, read_sort, read_fields, read_event};
+ghost use Rattle.text.specs.Words.{sort_of};
 
 use ledger::Event;
-use scanner::{DateRead, NumberRead, ValueRead};
 use terms::Terms;
 
 // The bytes of the longest text.
 pub const MAX_TEXT: usize = 65536;
 
-// The terms at the start of a text and where its events start, or that they break the form.
-#[derive(Clone, Copy)]
-pub enum TermsRead {
-    Got { terms: Terms, next: usize },
-    Broken,
-}
-
-// The event that starts at a place and where the next one starts, or that it breaks the form.
-#[derive(Clone, Copy)]
-pub enum EventRead {
-    Got { event: Event, next: usize },
-    Broken,
-}
-
-// The fields of the events.
-#[derive(Clone, Copy)]
-enum Field {
-    Amount,
-    Number,
-    Kind,
-    Usage,
-    Wh,
-    From,
-    To,
-}
-
 // ---- the terms
 
-// The terms that the text starts with.
-pub fn read_terms(text: &[u8]) -> TermsRead
-    ensures { TermsAt text.now result }
+pub fn read_terms(text: &[u8]) -> Option<(Terms, &[u8])>
+    ensures { IsRead (read_terms text.now) result }
 {
-    let DateRead::Got { date: opened, next } = scanner::read_date(text, 0, b"open") else {
-        return TermsRead::Broken;
-    };
-    let NumberRead::Got { value: price, next } = scanner::read_number(text, next, b"price") else {
-        return TermsRead::Broken;
-    };
-    let NumberRead::Got {
-        value: connect,
-        next,
-    } = scanner::read_number(text, next, b"connect")
-    else {
-        return TermsRead::Broken;
-    };
-    let NumberRead::Got {
-        value: cutoff,
-        next,
-    } = scanner::read_number(text, next, b"cutoff")
-    else {
-        return TermsRead::Broken;
-    };
-    let NumberRead::Got { value: share, next } = scanner::read_number(text, next, b"share") else {
-        return TermsRead::Broken;
-    };
+    let (opened, rest) = scanner::read_date(text, b"open")?;
+    let (price, rest) = scanner::read_number(rest, b"price")?;
+    let (connect, rest) = scanner::read_number(rest, b"connect")?;
+    let (cutoff, rest) = scanner::read_number(rest, b"cutoff")?;
+    let (share, rest) = scanner::read_number(rest, b"share")?;
     let terms = Terms {
         opened,
         price,
@@ -76,145 +32,99 @@ pub fn read_terms(text: &[u8]) -> TermsRead
         cutoff,
         share,
     };
-    TermsRead::Got { terms, next }
+    Some((terms, rest))
 }
 
-// ---- the words of `do`
+// ---- the sort of an event
 
-// The sort found so far, or else that of a word, if the value is it.
-fn found_or(found: u32, value: &[u8], word: &[u8], sort: u32) -> u32
-    ensures { result ≡ found_or found value.now word.now sort }
+// The sort that a word names.
+fn sort_of(word: &[u8]) -> Option<u32>
+    ensures { result ≡ sort_of word.now }
 {
-    if found != 0 {
-        return found;
-    }
-    if scanner::same(value, word) {
-        return sort;
-    }
-    0
-}
-
-// The sort that a word names, 0 for none.
-fn sort_of(value: &[u8]) -> u32
-    ensures { result ≡ sort_in sorts value.now }
-{
-    let found = found_or(0, value, b"pay", 1);
-    let found = found_or(found, value, b"reverse", 2);
-    let found = found_or(found, value, b"credit", 3);
-    let found = found_or(found, value, b"charge", 4);
-    let found = found_or(found, value, b"estimate", 5);
-    let found = found_or(found, value, b"read", 6);
-    let found = found_or(found, value, b"warn", 7);
-    let found = found_or(found, value, b"mark", 8);
-    let found = found_or(found, value, b"plan", 9);
-    let found = found_or(found, value, b"disconnect", 10);
-    found_or(found, value, b"connect", 11)
-}
-
-fn read_sort(text: &[u8], at: usize) -> NumberRead
-    ensures { SortAt text.now at result }
-{
-    let ValueRead::Got { from, end, next } = scanner::read_value(text, at, b"do") else {
-        return NumberRead::Broken;
-    };
-    let value = sort_of(&text[from..end]);
-    if value == 0 {
-        return NumberRead::Broken;
-    }
-    NumberRead::Got { value, next }
-}
-
-// ---- the fields
-
-// The event with a field's number.
-fn store(event: Event, field: Field, value: u32) -> Event
-    ensures { result ≡ stored field value event }
-{
-    let mut event = event;
-    match field {
-        Field::Amount => event.amount = value,
-        Field::Number => event.number = value,
-        Field::Kind => event.kind = value,
-        Field::Usage => event.usage = value,
-        Field::Wh => event.wh = value,
-        Field::From => event.from = value,
-        Field::To => event.to = value,
-    }
-    event
-}
-
-// The event with the number under a key in one field more.
-fn read_field(text: &[u8], at: usize, key: &[u8], field: Field, event: Event) -> EventRead
-    ensures { FieldsAt (field_line key.now field ∷ []) event text.now at result }
-{
-    let NumberRead::Got { value, next } = scanner::read_number(text, at, key) else {
-        return EventRead::Broken;
-    };
-    EventRead::Got {
-        event: store(event, field, value),
-        next,
+    match word {
+        b"pay" => Some(1),
+        b"reverse" => Some(2),
+        b"credit" => Some(3),
+        b"charge" => Some(4),
+        b"estimate" => Some(5),
+        b"read" => Some(6),
+        b"warn" => Some(7),
+        b"mark" => Some(8),
+        b"plan" => Some(9),
+        b"disconnect" => Some(10),
+        b"connect" => Some(11),
+        _ => None,
     }
 }
 
-// The same after what was read before.
-fn read_next(text: &[u8], read: EventRead, key: &[u8], field: Field) -> EventRead
-    ensures { NextAt (field_line key.now field) text.now read result }
+fn read_sort(text: &[u8]) -> Option<(u32, &[u8])>
+    ensures { IsRead (read_sort text.now) result }
 {
-    let EventRead::Got { event, next } = read else {
-        return EventRead::Broken;
-    };
-    read_field(text, next, key, field, event)
+    let (word, rest) = scanner::read_value(text, b"do")?;
+    Some((sort_of(word)?, rest))
 }
 
 // ---- an event
 
-// The fields of a charge, a mark or a plan: a kind first.
-fn read_kind(text: &[u8], at: usize, event: Event) -> EventRead
-    requires { ((event.sort ≡ 4) ⊎ (event.sort ≡ 8)) ⊎ (event.sort ≡ 9) }
-    ensures { FieldsAt (fields_in sorts event.sort) event text.now at result }
+// The event with the fields that its sort names.
+fn read_fields(text: &[u8], event: Event) -> Option<(Event, &[u8])>
+    ensures { IsRead (read_fields (fields_in sorts event.sort) event text.now) result }
 {
-    let read = read_field(text, at, b"kind", Field::Kind, event);
-    if event.sort == 9 {
-        return read;
-    }
-    if event.sort == 4 {
-        return read_next(text, read, b"amount", Field::Amount);
-    }
-    let read = read_next(text, read, b"from", Field::From);
-    read_next(text, read, b"to", Field::To)
-}
-
-// The fields that the event's sort names.
-fn read_fields(text: &[u8], at: usize, event: Event) -> EventRead
-    requires { at ≤ length text.now }
-    ensures { FieldsAt (fields_in sorts event.sort) event text.now at result }
-{
-    let sort = event.sort;
-    match sort {
-        1 | 3 => read_field(text, at, b"amount", Field::Amount, event),
-        2 => read_field(text, at, b"number", Field::Number, event),
-        // Called from two arms `read_kind` stays one function; from one, the compiler copies every field's reading into the program: 8 % more
-        // instructions, measured.
-        4 | 8 => read_kind(text, at, event),
-        9 => read_kind(text, at, event),
-        5 | 6 => {
-            let used = read_field(text, at, b"usage", Field::Usage, event);
-            read_next(text, used, b"wh", Field::Wh)
+    match event.sort {
+        1 | 3 => {
+            let (amount, rest) = scanner::read_number(text, b"amount")?;
+            Some((Event { amount, ..event }, rest))
         }
-        _ => EventRead::Got { event, next: at },
+        2 => {
+            let (number, rest) = scanner::read_number(text, b"number")?;
+            Some((Event { number, ..event }, rest))
+        }
+        4 | 8 | 9 => {
+            let (kind, rest) = scanner::read_number(text, b"kind")?;
+            match event.sort {
+                4 => {
+                    let (amount, rest) = scanner::read_number(rest, b"amount")?;
+                    Some((
+                        Event {
+                            kind,
+                            amount,
+                            ..event
+                        },
+                        rest,
+                    ))
+                }
+                8 => {
+                    let (from, rest) = scanner::read_number(rest, b"from")?;
+                    let (to, rest) = scanner::read_number(rest, b"to")?;
+                    Some((
+                        Event {
+                            kind,
+                            from,
+                            to,
+                            ..event
+                        },
+                        rest,
+                    ))
+                }
+                _ => Some((Event { kind, ..event }, rest)),
+            }
+        }
+        5 | 6 => {
+            let (usage, rest) = scanner::read_number(text, b"usage")?;
+            let (wh, rest) = scanner::read_number(rest, b"wh")?;
+            Some((Event { usage, wh, ..event }, rest))
+        }
+        _ => Some((event, text)),
     }
 }
 
-// The event that starts at `at`.
-pub fn read_event(text: &[u8], at: usize) -> EventRead
-    ensures { EventAt text.now at result }
+// The shortest event, `day=0` and `do=warn`, has 14 bytes.
+pub fn read_event(text: &[u8]) -> Option<(Event, &[u8])>
+    ensures read { IsRead (read_event text.now) result }
+    ensures shorter { IfSome result (λ p. length p.1.now + 14 ≤ length text.now) }
 {
-    let NumberRead::Got { value: day, next } = scanner::read_number(text, at, b"day") else {
-        return EventRead::Broken;
-    };
-    let NumberRead::Got { value: sort, next } = read_sort(text, next) else {
-        return EventRead::Broken;
-    };
+    let (day, rest) = scanner::read_number(text, b"day")?;
+    let (sort, rest) = read_sort(rest)?;
     let event = Event {
         sort,
         day,
@@ -226,5 +136,5 @@ pub fn read_event(text: &[u8], at: usize) -> EventRead
         from: 0,
         to: 0,
     };
-    read_fields(text, next, event)
+    read_fields(rest, event)
 }

@@ -1,4 +1,0 @@
-pub mod Sorts
-pub mod Fields
-pub mod Laws
-pub mod Whole
