@@ -2,238 +2,105 @@
 // It uses the calendar, the ledger, the moves and the account. The promise says the figures twice: off the record, and in the ledger's terms.
 #![tactic(auto)]
 
-ghost use Rattle.std.specs.Prelude.{◌≡◌, ℕ, ◌+◌, ◌-◌, ◌*◌, ◌≤◌, ◌<◌};
-ghost use Rattle.calendar.specs.Calendar.{final_day, day_count, month_count};
+ghost use Rattle.std.specs.Prelude.{◌≡◌, ◌+◌, ◌*◌, ◌≤◌, ◌<◌, cond, eqb, length};
+ghost use Rattle.calendar.specs.Calendar.{day_count, month_count};
 ghost use Rattle.ledger.specs.Rules.{max_payments};
-ghost use Rattle.ledger.specs.Months.{no_summary, average_of};
-ghost use Rattle.months.specs.Summary.{charges_of, IsSummary};
-ghost use Rattle.months.specs.Work.{max_field, span, PaidTo, UsedTo, with_amount, with_payment, paid_by, with_usage, with_day, used_by, max_averaged, figures_of};
+ghost use Rattle.ledger.specs.Months.{average_of};
+ghost use Rattle.ledger.specs.Refusals.{average_or_0, is_missing, summary_of};
+ghost use Rattle.months.specs.Summary.{counted_by, charges_of, IsSummary};
+ghost use Rattle.months.specs.Work.{max_field, span, is_kept_as, used_by, max_averaged};
 
-use account::{Account, Payments, UsageDays};
-use ledger::{CHARGE_KIND_COUNT, Counted, KindSums, Summary, Used};
-use moves::{Charges, Day, Payment, Usage};
-
-// The payments kept and those reversed.
-#[derive(Clone, Copy)]
-struct Paid {
-    kept: Counted,
-    reversed: Counted,
-}
-
-// The usage of metered days and that of estimated ones.
-#[derive(Clone, Copy)]
-struct Usages {
-    metered: Used,
-    estimated: Used,
-}
+use account::{Account, UsageDays};
+use ledger::{CHARGE_KIND_COUNT, Counted, Figures, KindSums, Refusal, Used};
+use moves::{Charges, Payment, Usage};
+use std::ops::Range;
 
 // No list of charges takes a sum past this: a record that has one, of kind 1 or 2, is no account of this software's.
 const MAX_CHARGE_SUM: u64 = 1099511627776;
 
-// ---- payments
-
-fn with_amount(c: Counted, amount: u32) -> Counted
-    requires { (c.count < max_payments) × (c.sum ≤ (max_payments - 1) * max_field) }
-    ensures value { result ≡ with_amount c amount }
-    ensures sum_bound { result.sum ≤ c.sum + max_field }
+// The payments of those days that are reversed, or those that are not.
+fn paid_in(payments: &[Payment], days: &Range<u32>, reversed: bool) -> Counted
+    requires { length payments.now ≤ max_payments }
+    ensures { result ≡ counted_by (span days.now) (is_kept_as reversed) payments.now (length payments.now) }
 {
-    Counted {
-        count: c.count + 1,
-        sum: c.sum + amount as u64,
+    let mut paid = Counted::default();
+    for p in payments {
+        if p.reversed == reversed && days.contains(&p.day) {
+            paid.count += 1;
+            paid.sum += u64::from(p.amount);
+        }
     }
+    paid
 }
 
-// With one payment more, if its day is one of days `from` to the day before `to`.
-fn with_payment(s: Paid, p: Payment, from: u32, to: u32) -> Paid
-    requires { PaidTo (max_payments - 1) s }
-    ensures value { result ≡ with_payment (span from to) s p }
-    ensures by_index { (n : ℕ) → PaidTo n s → PaidTo (n + 1) result }
+// The metered usage of those days, or the estimated.
+fn used_in(usage: &UsageDays, days: &Range<u32>, metered: bool) -> Used
+    requires { (days.now.start ≤ days.now.end) × (days.now.end ≤ day_count) }
+    ensures value { result ≡ used_by (span days.now) metered usage.now day_count }
+    ensures bound { (result.wh ≤ day_count * max_field) × (result.cost ≤ day_count * max_field) }
 {
-    if p.day < from {
-        return s;
+    let mut used = Used::default();
+    for d in &usage[days.start as usize..days.end as usize] {
+        match d.usage {
+            Usage::Estimated { wh, cost } if !metered => {
+                used.wh += u64::from(wh);
+                used.cost += u64::from(cost);
+            }
+            Usage::Metered { wh, cost } if metered => {
+                used.wh += u64::from(wh);
+                used.cost += u64::from(cost);
+            }
+            _ => {}
+        }
     }
-    if p.day >= to {
-        return s;
-    }
-    let kept = s.kept;
-    let reversed = s.reversed;
-    if p.reversed {
-        return Paid {
-            kept,
-            reversed: with_amount(reversed, p.amount),
-        };
-    }
-    Paid {
-        kept: with_amount(kept, p.amount),
-        reversed,
-    }
+    used
 }
 
-fn paid_in(payments: Payments, count: u32, from: u32, to: u32) -> Paid
-    requires { count ≤ max_payments }
-    ensures { result ≡ paid_by (span from to) payments count }
-{
-    let mut s = Paid {
-        kept: Counted { count: 0, sum: 0 },
-        reversed: Counted { count: 0, sum: 0 },
-    };
-    let mut n = 0;
-    while n < count {
-        let i = n as usize;
-        let p = payments[i];
-        s = with_payment(s, p, from, to);
-        n += 1;
-    }
-    s
-}
-
-// ---- usage days
-
-fn with_usage(u: Used, wh: u32, cost: u32) -> Used
-    requires { (u.wh ≤ final_day * max_field) × (u.cost ≤ final_day * max_field) }
-    ensures value { result ≡ with_usage u wh cost }
-    ensures wh_bound { (result.wh ≤ u.wh + max_field) × (result.cost ≤ u.cost + max_field) }
-{
-    Used {
-        wh: u.wh + wh as u64,
-        cost: u.cost + cost as u64,
-    }
-}
-
-// With one usage day more.
-fn with_day(s: Usages, d: Day) -> Usages
-    requires { UsedTo final_day s }
-    ensures value { result ≡ with_day s d.usage }
-    ensures by_index { (n : ℕ) → UsedTo n s → UsedTo (n + 1) result }
-{
-    let metered = s.metered;
-    let estimated = s.estimated;
-    let u = d.usage;
-    match u {
-        Usage::Blank => s,
-        Usage::Estimated { wh, cost } => Usages {
-            metered,
-            estimated: with_usage(estimated, wh, cost),
-        },
-        Usage::Metered { wh, cost } => Usages {
-            metered: with_usage(metered, wh, cost),
-            estimated,
-        },
-    }
-}
-
-fn used_in(days: UsageDays, from: u32, to: u32) -> Usages
-    requires { (from ≤ to) × (to ≤ day_count) }
-    ensures value { result ≡ used_by (span from to) days day_count }
-    ensures used_to { UsedTo day_count result }
-{
-    let mut s = Usages {
-        metered: Used { wh: 0, cost: 0 },
-        estimated: Used { wh: 0, cost: 0 },
-    };
-    let mut d = from;
-    while d < to {
-        let i = d as usize;
-        let x = days[i];
-        s = with_day(s, x);
-        d += 1;
-    }
-    s
-}
-
-// ---- charges, and the month's figures
-
-fn charges_in(charges: Charges, m: u32) -> KindSums
+fn charges_in(charges: &Charges, m: u32) -> KindSums
     requires { m < month_count }
-    ensures { result ≡ charges_of charges m }
+    ensures { result ≡ charges_of charges.now m }
 {
-    let i = (CHARGE_KIND_COUNT * m) as usize;
-    [
-        charges[i],
-        charges[i + 1],
-        charges[i + 2],
-        charges[i + 3],
-        charges[i + 4],
-    ]
+    let first = (CHARGE_KIND_COUNT * m) as usize;
+    let mut sums = KindSums::default();
+    let end = first + sums.len();
+    sums.copy_from_slice(&charges[first..end]);
+    sums
 }
 
-fn average(cost: u64, wh: u64) -> u64
+// Hundredths of a cent per kWh; none where no Wh were used.
+fn average(cost: u64, wh: u64) -> Option<u64>
     requires { (cost ≤ max_averaged) × (wh ≤ max_averaged) }
-    ensures { result ≡ average_of cost wh }
+    ensures value { average_or_0 result ≡ average_of cost wh }
+    ensures missing { is_missing result ≡ eqb wh 0 }
 {
-    if wh == 0 {
-        return 0;
-    }
-    (cost * 100000 + wh / 2) / wh
+    (cost * 100000 + wh / 2).checked_div(wh)
 }
 
-// A code, and every figure 0.
-fn nothing(code: u8) -> Summary
-    ensures { result ≡ no_summary code }
+// Month m's figures, counted from the opening month. The record is refused by 1 where it is no account, then by 3 where none of the account's
+// days lies in the month, then by 1 where a sum of charges in the average is past any account's.
+pub fn summary(a: &Account, m: u32) -> Result<Figures, Refusal>
+    ensures { IsSummary a.now m (summary_of result) }
 {
-    Summary {
-        code,
-        kept: Counted { count: 0, sum: 0 },
-        reversed: Counted { count: 0, sum: 0 },
-        metered: Used { wh: 0, cost: 0 },
-        estimated: Used { wh: 0, cost: 0 },
-        charges: [0; CHARGE_KIND_COUNT as usize],
-        average: 0,
-        missing: false,
+    if !moves::is_account(a.terms, a.totals) {
+        return Err(Refusal::Terms);
     }
-}
-
-fn figures(p: Paid, u: Usages, charges: KindSums) -> Summary
-    requires { UsedTo day_count u }
-    ensures { result ≡ figures_of p u charges }
-{
+    let days = calendar::days_of(a.terms.opened, m).ok_or(Refusal::Limits)?;
+    let charges = charges_in(&a.charges, m);
     let delivery = charges[0];
     let tax = charges[1];
-    if delivery > MAX_CHARGE_SUM {
-        return nothing(1);
+    if delivery > MAX_CHARGE_SUM || tax > MAX_CHARGE_SUM {
+        return Err(Refusal::Terms);
     }
-    if tax > MAX_CHARGE_SUM {
-        return nothing(1);
-    }
-    let kept = p.kept;
-    let reversed = p.reversed;
-    let metered = u.metered;
-    let estimated = u.estimated;
+    let payments = &a.payments[..a.totals.count as usize];
+    let metered = used_in(&a.days, &days, true);
+    let estimated = used_in(&a.days, &days, false);
     let cost = metered.cost + estimated.cost + delivery + tax;
-    let wh = metered.wh + estimated.wh;
-    let average = average(cost, wh);
-    Summary {
-        code: 0,
-        kept,
-        reversed,
+    Ok(Figures {
+        kept: paid_in(payments, &days, false),
+        reversed: paid_in(payments, &days, true),
         metered,
         estimated,
         charges,
-        average,
-        missing: wh == 0,
-    }
-}
-
-// Month m's figures, counted from the opening month. The code is 1 where the record is no account, then 3 where none of the account's
-// days lies in the month, then 1 where a sum of charges in the average is past any account's.
-pub fn summary(a: Account, m: u32) -> Summary
-    ensures { IsSummary a m result }
-{
-    let t = a.terms;
-    let s = a.totals;
-    if !moves::is_account(t, s) {
-        return nothing(1);
-    }
-    let opened = t.opened;
-    let days = calendar::days_of(opened, m);
-    if days.from == days.to {
-        return nothing(3);
-    }
-    let payments = a.payments;
-    let paid = paid_in(payments, s.count, days.from, days.to);
-    let usage = a.days;
-    let used = used_in(usage, days.from, days.to);
-    let sums = a.charges;
-    let charges = charges_in(sums, m);
-    figures(paid, used, charges)
+        average: average(cost, metered.wh + estimated.wh),
+    })
 }
