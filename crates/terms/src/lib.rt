@@ -7,7 +7,7 @@ ghost use Rattle.terms.specs.Terms.{valid_terms};
 use calendar::Date;
 
 #[repr(C)]
-#[derive(Clone, Copy)]
+#[derive(Clone, Copy, Debug, PartialEq, Eq, Default)]
 pub struct Terms {
     pub opened: Date,
     // hundredths of a cent per kWh
