@@ -1,17 +1,16 @@
 -- Bytes put into a buffer: what stays, and putting one thing after the other. Assumes nothing.
 use mathlib.Core.Path.{◌≡◌, sym, ap, ◌∙◌}
 use mathlib.Core.Bool.{false}
-use mathlib.Core.List.{List, [], ◌∷◌, ◌++◌, append_assoc}
-use Prim.Native.Nat.{ℕ, suc, ◌+◌, ◌-◌, ◌≤◌, ◌<◌}
+use mathlib.Core.List.{List, [], ◌++◌, append_assoc}
+use Prim.Native.Nat.{ℕ, ◌+◌, ◌-◌, ◌≤◌}
 use native.Mathlib.Nat.{add-zero}
-use native.Mathlib.Numerals.{add-one}
 use native.Mathlib.Omega.{arith}
-use lib.ListN.{length, take, drop, set, length-append, length-drop, length-set, take-append-drop}
-use lib.Seq.{paste, take-length, length-take-le, take_at, drop_at, drop-drop, drop-cons, set_split, drop-set-lt, take-set-le, get_or-set_same}
+use lib.ListN.{length, take, drop, length-append, length-drop, take-append-drop}
+use lib.Seq.{length-take-le, take_at, drop_at, drop-drop}
 use lib.Dec.{leb}
-use borrow.Author.Tests.{le-leb, leb-true, leb-false, lt-leb}
+use borrow.Author.Tests.{le-leb}
+use borrow.Rule.Slice.PartMut.{put_mid}
 use Rattle.printing.specs.Printing.{over, fits, put, place_after, Puts}
-use Rattle.printing.proofs.Digits.{decide}
 
 module _ (b : List ℕ) (at : ℕ) (x : List ℕ) (h : at + length x ≤ length b) where
   -- what stands before and in the new bytes
@@ -34,21 +33,16 @@ module _ (b : List ℕ) (at : ℕ) (x : List ℕ) (h : at + length x ≤ length 
       ∙ length-append (take at b ++ x) (drop (at + length x) b)
       ∙ rw (head-length, length-drop (at + length x) b) (omega arith)
 
--- nothing; one byte
+-- nothing
 pub over_none : (b : List ℕ) (at : ℕ) → over b at [] ≡ b
 unfolding over
 over_none b at = rw (add-zero at) (take-append-drop at b)
 
-pub over-one : (b : List ℕ) (at g : ℕ) → at < length b → over b at (g ∷ []) ≡ set b at g
+-- the library's copy into a part
+pub placed : (b : List ℕ) (at : ℕ) (x part : List ℕ) → part ≡ x → put_mid at (at + length x - at) b part ≡ over b at x
 unfolding over
-over-one b at g h = rw (add-one at) (sym (set_split b at g h))
-
--- the library's copy, whole
-pub paste_all : (b : List ℕ) (at : ℕ) (x : List ℕ) (n : ℕ) → n ≡ length x → paste b at x n ≡ over b at x
-unfolding over
-paste_all b at x n e =
-    rw e
-    (ap (λ (l : List ℕ). take at b ++ l ++ drop (at + length x) b) (take-length x) ∙ append_assoc (take at b) x (drop (at + length x) b))
+placed b at x part e =
+    rw e (ap (λ (l : List ℕ). take at b ++ (x ++ l)) (drop-drop (at + length x - at) at b ∙ ap (λ (k : ℕ). drop k b) (omega arith)))
 
 -- one thing after the other
 pub over-over : (b : List ℕ) (at : ℕ) (x y : List ℕ) → at + length x + length y ≤ length b → over (over b at x) (at + length x) y ≡ over b at (x ++ y)
@@ -62,31 +56,7 @@ over-over b at x y h =
     ∙ ap (λ (l : List ℕ). take at b ++ l) (sym (append_assoc x y (drop (at + length x + length y) b)))
     ∙ ap (λ (k : ℕ). take at b ++ ((x ++ y) ++ drop k b)) (sym e)
 
--- the last byte first, as digits are spelt; the first byte first, as a minus is
-drop-set : (b : List ℕ) (i g : ℕ) → i < length b → drop i (set b i g) ≡ g ∷ drop (suc i) b
-drop-set b i g h =
-    drop-cons (set b i g) i 0 (simp length-set h)
-    ∙ ap (λ (a : ℕ). a ∷ drop (suc i) (set b i g)) (get_or-set_same b i g 0 h)
-    ∙ ap (λ (l : List ℕ). g ∷ l) (drop-set-lt (suc i) b i g (omega arith))
-
-pub over_last : (b : List ℕ) (at : ℕ) (x : List ℕ) (g : ℕ) → at + length x < length b → over (set b (at + length x) g) at x ≡ over b at (x ++ g ∷ [])
-unfolding over
-over_last b at x g h =
-    let e : suc (at + length x) ≡ at + length (x ++ g ∷ []) = rw (length-append x (g ∷ [])) (omega arith) in
-    ap (λ (l : List ℕ). l ++ (x ++ drop (at + length x) (set b (at + length x) g))) (take-set-le at b (at + length x) g (omega arith))
-    ∙ ap (λ (l : List ℕ). take at b ++ (x ++ l)) (drop-set b (at + length x) g h)
-    ∙ ap (λ (k : ℕ). take at b ++ (x ++ (g ∷ drop k b))) e
-    ∙ ap (λ (l : List ℕ). take at b ++ l) (sym (append_assoc x (g ∷ []) (drop (at + length (x ++ g ∷ [])) b)))
-
-pub over_first : (b : List ℕ) (at : ℕ) (x : List ℕ) (g : ℕ) → at + length (g ∷ x) ≤ length b → over (set b at g) (at + 1) x ≡ over b at (g ∷ x)
-over_first b at x g h = rw (sym (over-one b at g (omega arith))) (over-over b at (g ∷ []) x (omega arith))
-
 -- ---- where the bytes fit, and where not
-
-pub moved-over : (at count room : ℕ) → count ≤ room → leb at (room - count) ≡ leb (at + count) room
-moved-over at count room h = decide (leb (at + count) room)
-    (λ t. le-leb at (room - count) (omega (arith, leb-true (at + count) room t)) ∙ sym t)
-    (λ f. lt-leb at (room - count) (omega (arith, leb-false (at + count) room f)) ∙ sym f)
 
 module _ (b : List ℕ) (at : ℕ) (x : List ℕ) where
   pub put-fits : at + length x ≤ length b → put b at x ≡ over b at x

@@ -1,5 +1,5 @@
 pub mod Counts
 pub mod Digits
 pub mod Laws
+mod Numbers
 pub mod Placed
-pub mod Signs

@@ -1,5 +1,5 @@
 -- Bytes that fit, one thing after the other. Assumes nothing.
-use mathlib.Core.Path.{◌≡◌, sym, ap, ◌∙◌}
+use mathlib.Core.Path.{◌≡◌, refl, sym, ap, ◌∙◌}
 use mathlib.Core.Bool.{Bool, true, false, cond}
 use mathlib.Core.List.{List, ◌++◌, append_assoc}
 use Prim.Native.Nat.{ℕ, ◌+◌, ◌≤◌, ◌<◌}
@@ -9,10 +9,12 @@ use lib.ListN.{length, drop, length-append}
 use lib.Dec.{ltb, leb}
 use borrow.Author.Tests.{lt-ltb, le-ltb, leb-true}
 use Rattle.printing.specs.Printing.{over, Puts, Wrote, Whole}
-use Rattle.printing.proofs.Laws.{length_over, over-over, put-fits, past_fits, puts-all}
+use Rattle.printing.specs.Printer.{Prints, Printed}
+use Rattle.printing.specs.declared.Printer.{Printer}
+use Rattle.printing.proofs.Laws.{length_over, over-over, put-fits, past_fits, puts-all, puts-nothing}
 
 module _ {b : List ℕ} {at : ℕ} {x after : List ℕ} {r : ℕ} where
-  pub wrote : Puts b at x after r → at + length x ≤ length b → Wrote b at x after r
+  wrote : Puts b at x after r → at + length x ≤ length b → Wrote b at x after r
   wrote p h = record { buffer = p.buffer ∙ put-fits b at x h; next = p.next ∙ past_fits b at x h; room = h }
 
   pub kept : Wrote b at x after r → length after ≡ length b
@@ -27,48 +29,52 @@ module _ {b : List ℕ} {at : ℕ} {x after : List ℕ} {r : ℕ} where
         room = simp length-append (omega arith);
       }
 
--- a word put, and bytes written after it, where both have room
-module _ {b : List ℕ} {at : ℕ} (x y : List ℕ) {after : List ℕ} {r : ℕ} (p : Puts b at x after r) (h : at + length (x ++ y) ≤ length b) where
-  word : Wrote b at x after r
-  word = wrote p (omega (arith, length-append x y))
+-- ---- by a printer
 
-  pub room_after : r + length y ≤ length after
-  room_after = omega (arith, length-append x y, word.next, kept word)
+module _ {p q : Printer} {x : List ℕ} where
+  pub printed : Prints p x q → p.at + length x ≤ length p.out.now → Printed p x q
+  printed w h = record { same = w.same; wrote = wrote w.puts h }
 
-  pub puts_then : {last : List ℕ} {q : ℕ} → last ≡ over after r y → q ≡ r + length y → Puts b at (x ++ y) last q
-  puts_then {last} {q} e n =
-      let whole : Wrote b at (x ++ y) last q = wrote_then word (record { buffer = e; next = n; room = room_after }) in
-      puts-all b at (x ++ y) last q h whole.buffer whole.next
+  pub printed_then : {y : List ℕ} {r : Printer} → Printed p x q → Printed q y r → Printed p (x ++ y) r
+  printed_then w v = record { same = v.same ∙ w.same; wrote = wrote_then w.wrote v.wrote }
 
--- whether a word and the bytes after it fit: what `room` answers for their lengths
-pub tested : (b : List ℕ) (at : ℕ) (x y : List ℕ) {count : ℕ} {r : Bool} → r ≡ leb (at + count) (length b) → count ≡ length x + length y → r ≡ leb (at + length (x ++ y)) (length b)
-tested b at x y e n = e ∙ ap (λ (k : ℕ). leb (at + k) (length b)) (omega (arith, n, length-append x y))
+-- a word and what follows it, as one
+module _ (p : Printer) (x y : List ℕ) where
+  together : p.at + (length x + length y) ≡ p.at + length (x ++ y)
+  together = ap (λ (k : ℕ). p.at + k) (sym (length-append x y))
 
-pub fit : (b : List ℕ) (at : ℕ) (x y : List ℕ) {count : ℕ} {r : Bool} → r ≡ leb (at + count) (length b) → count ≡ length x + length y → r ≡ true → at + length (x ++ y) ≤ length b
-fit b at x y e n t = leb-true _ _ (sym (tested b at x y e n) ∙ t)
+  pub both : {q r : Printer} → leb (p.at + (length x + length y)) (length p.out.now) ≡ true → Prints p x q → Prints q y r → Prints p (x ++ y) r
+  both {q} {r} t w v =
+      let h : p.at + (length x + length y) ≤ length p.out.now = leb-true _ _ t in
+      let first : Printed p x q = printed w (omega (arith, h)) in
+      let whole : Printed p (x ++ y) r = printed_then first (printed v (omega (arith, h, first.wrote.next, kept first.wrote))) in
+      record { same = whole.same; puts = puts-all _ _ _ _ _ whole.wrote.room whole.wrote.buffer whole.wrote.next }
+
+  pub neither : leb (p.at + (length x + length y)) (length p.out.now) ≡ false → Prints p (x ++ y) p
+  neither f = record { same = refl; puts = puts-nothing _ _ _ (rw together at f) }
 
 -- ---- the last word, the last field, and a field and what follows it: whole, and how far they reach, with `most` digits at most and `rest`
 -- bytes at most after them
 
-pub word-last : {b : List ℕ} {at : ℕ} {x after : List ℕ} {r : ℕ} → Puts b at x after r → at + length x ≤ length b → Wrote b at x after r × (r ≤ at + length x)
-word-last {b} {at} {x} {after} {r} p h = let w : Wrote b at x after r = wrote p h in (w, omega (arith, w.next))
+pub word-last : {p q : Printer} {x : List ℕ} → Prints p x q → p.at + length x ≤ length p.out.now → Printed p x q × (q.at ≤ p.at + length x)
+word-last {p} {q} {x} w h = let v : Printed p x q = printed w h in (v, omega (arith, v.wrote.next))
 
-module _ {b : List ℕ} {at : ℕ} (word digits : List ℕ) (most : ℕ) {after : List ℕ} {r : ℕ} (few : length digits ≤ most) (p : Puts b at (word ++ digits) after r) where
-  pub field-last : at + (length word + most) ≤ length b → Wrote b at (word ++ digits) after r × (r ≤ at + (length word + most))
+module _ {p q : Printer} (word digits : List ℕ) (most : ℕ) (few : length digits ≤ most) (w : Prints p (word ++ digits) q) where
+  pub field-last : p.at + (length word + most) ≤ length p.out.now → Printed p (word ++ digits) q × (q.at ≤ p.at + (length word + most))
   field-last h =
-      let w : Wrote b at (word ++ digits) after r = wrote p (simp length-append (omega arith)) in
-      (w, omega (arith, w.next, length-append word digits))
+      let v : Printed p (word ++ digits) q = printed w (simp length-append (omega arith)) in
+      (v, omega (arith, v.wrote.next, length-append word digits))
 
-  pub field-then : (rest : ℕ) {y last : List ℕ} {q : ℕ} → at + (length word + most + rest) ≤ length b
-      → (r + rest ≤ length after → Wrote after r y last q × (q ≤ r + rest))
-      → Wrote b at (word ++ (digits ++ y)) last q × (q ≤ at + (length word + most + rest))
+  pub field-then : (rest : ℕ) {y : List ℕ} {r : Printer} → p.at + (length word + most + rest) ≤ length p.out.now
+      → (q.at + rest ≤ length q.out.now → Printed q y r × (r.at ≤ q.at + rest))
+      → Printed p (word ++ (digits ++ y)) r × (r.at ≤ p.at + (length word + most + rest))
   field-then rest {y} h next =
-      let w = field-last (omega arith) in
-      let v = next (omega (arith, w.1, kept w.0)) in
-      (rw (sym (append_assoc word digits y)) (wrote_then w.0 v.0), omega (arith, w.1, v.1))
+      let f = field-last (omega arith) in
+      let v = next (omega (arith, f.1, kept f.0.wrote)) in
+      (rw (sym (append_assoc word digits y)) (printed_then f.0 v.0), omega (arith, f.1, v.1))
 
 -- bytes from the start on
-pub from_start : (b x : List ℕ) → over b 0 x ≡ x ++ drop (length x) b
+from_start : (b x : List ℕ) → over b 0 x ≡ x ++ drop (length x) b
 unfolding over
 from_start b x = rw (zero-add (length x))
 

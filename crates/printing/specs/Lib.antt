@@ -1,1 +1,2 @@
+pub mod Printer
 pub mod Printing

@@ -1,0 +1,14 @@
+-- What a printer's methods leave.
+use Rattle.std.specs.Prelude.{ℕ, ◌≡◌, List}
+use Rattle.printing.specs.declared.Printer.{Printer}
+use Rattle.printing.specs.Printing.{Puts, Wrote}
+
+-- The bytes are put from the place on where they fit, as `Puts` says, in the same buffer.
+pub record Prints (p : Printer) (bytes : List ℕ) (q : Printer) : Type 0 where
+  pub same : q.out.ghost_name ≡ p.out.ghost_name
+  pub puts : Puts p.out.now p.at bytes q.out.now q.at
+
+-- They had room, and stand there.
+pub record Printed (p : Printer) (bytes : List ℕ) (q : Printer) : Type 0 where
+  pub same : q.out.ghost_name ≡ p.out.ghost_name
+  pub wrote : Wrote p.out.now p.at bytes q.out.now q.at
