@@ -10,8 +10,7 @@ use borrow.Author.Tests.{eqb-false}
 use Rattle.marks.specs.Marks.{mark_range, marked}
 use Rattle.ledger.specs.declared.Event.{Event}
 use Rattle.ledger.proofs.Cases.{decide}
-use Rattle.moves.specs.Moves.{refusing, move_of, cells_before}
-use Rattle.moves.specs.declared.Move.{Move}
+use Rattle.moves.specs.Moves.{Moved, refusing, move_of, cells_before}
 use Rattle.moves.proofs.Arms.{Sound, sound}
 use Rattle.account.specs.Record.{blank_day, no_payment}
 use Rattle.account.specs.Step.{number_at, usage_at, day_at, cells_of, with_cells, step_of}
@@ -38,7 +37,7 @@ module _ (a : Account) (e : Event) where
 
   -- ---- the move of the event
 
-  abbrev m : Move
+  abbrev m : Moved
   m = move_of a.terms (cells_of a e) a.charges a.marks a.warned e
 
   sound-is : Sound (cells_of a e) m

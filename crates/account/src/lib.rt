@@ -3,13 +3,13 @@
 #![tactic(auto)]
 
 ghost use Rattle.std.specs.Prelude.{◌≡◌};
-ghost use Rattle.account.specs.Step.{step_of, IsOpened};
+ghost use Rattle.account.specs.Step.{IsOpened, step_of, stepped_of};
 ghost use Rattle.account.specs.Record.{fresh};
 
 use calendar::DAY_COUNT;
-use ledger::{Event, MAX_PAYMENTS};
+use ledger::{Event, MAX_PAYMENTS, Refusal};
 use marks::DayBytes;
-use moves::{CHARGE_PLACES, Charges, Day, Payment, Totals, Usage};
+use moves::{CHARGE_PLACES, Cells, Charges, Day, Payment, Totals};
 use terms::Terms;
 
 pub type UsageDays = [Day; DAY_COUNT as usize];
@@ -30,90 +30,75 @@ pub struct Account {
     pub charges: Charges,
 }
 
-// The account after an event, and the answer to it.
-#[derive(Clone, Copy)]
-pub struct Posted {
-    pub account: Account,
-    pub code: u8,
-    pub value: u64,
-}
+impl Account {
+    // A fresh account of these terms. Where they are outside their limits it is no account: every event gets 1.
+    #[tactic(auto, unfolding(crate::specs::Record::fresh))]
+    pub fn fresh(t: Terms) -> Account
+        ensures { result ≡ fresh t }
+    {
+        Account {
+            terms: t,
+            totals: Totals::default(),
+            days: [Day::default(); DAY_COUNT as usize],
+            marks: [0; DAY_COUNT as usize],
+            warned: [0; DAY_COUNT as usize],
+            payments: [Payment::default(); MAX_PAYMENTS as usize],
+            charges: [0; CHARGE_PLACES],
+        }
+    }
 
-// The record, and 0, or 1 where the terms are outside their limits.
-#[derive(Clone, Copy)]
-pub struct Opened {
-    pub account: Account,
-    pub code: u8,
-}
-
-#[tactic(auto, unfolding(crate::specs::Record::fresh))]
-fn empty(t: Terms) -> Account
-    ensures { result ≡ fresh t }
-{
-    Account {
-        terms: t,
-        totals: Totals {
-            credit: 0,
-            debit: 0,
-            plan: 0,
-            standing: 0,
-            count: 0,
-            events: 0,
-            last: 0,
-            on: false,
-        },
-        days: [Day {
-            usage: Usage::Blank,
-        }; DAY_COUNT as usize],
-        marks: [0; DAY_COUNT as usize],
-        warned: [0; DAY_COUNT as usize],
-        payments: [Payment {
-            day: 0,
-            amount: 0,
-            part: 0,
-            reversed: false,
-        }; MAX_PAYMENTS as usize],
-        charges: [0; CHARGE_PLACES],
+    // One event: the cells that it may change are read, moved and written back. A refusal writes none of them.
+    #[tactic(auto, unfolding(crate::specs::Step::step_of))]
+    pub fn post(&mut self, e: Event) -> Result<u64, Refusal>
+        ensures { stepped_of self.new result ≡ step_of self.old e }
+    {
+        let number = (e.number % MAX_PAYMENTS) as usize;
+        let usage = (e.usage % DAY_COUNT) as usize;
+        let cells = Cells {
+            terms: self.terms,
+            totals: self.totals,
+            payment: self.payments[number],
+            day: self.days[usage],
+            charges: &self.charges,
+            marks: &self.marks,
+            warned: &self.warned,
+        };
+        let m = moves::move_of(cells, e)?;
+        self.totals = m.totals;
+        self.payments[m.number as usize] = m.payment;
+        self.days[usage] = m.day;
+        self.charges[m.place as usize] = m.sum;
+        self.warned[(e.day % DAY_COUNT) as usize] = m.warned;
+        if let Some(mark) = m.mark {
+            marks::set(&mut self.marks, mark.kind, mark.from, mark.to);
+        }
+        Ok(m.value)
     }
 }
 
-// A fresh account of these terms. Where they are outside their limits the code is 1 and the record no account: every event gets 1.
-pub fn open(t: Terms) -> Opened
+// A fresh account of these terms, or the refusal of terms outside their limits.
+pub fn open(t: Terms) -> Result<Account, Refusal>
     ensures { IsOpened t result }
 {
-    Opened {
-        account: empty(t),
-        code: terms::check(t),
+    if t.is_valid() {
+        Ok(Account::fresh(t))
+    } else {
+        Err(Refusal::Terms)
     }
 }
 
-// One event: the account after it and the answer. The cells that the event may change are read and moved. A refusal writes none of them: the
-// account is handed back as it came in; else they are written back.
-#[tactic(auto, unfolding(crate::specs::Step::step_of))]
-pub fn step(a: Account, e: Event) -> Posted
-    ensures { result ≡ step_of a e }
+// The record after an event, and the answer to it.
+#[derive(Clone, Copy)]
+pub struct Posted<R> {
+    pub account: R,
+    pub answer: Result<u64, Refusal>,
+}
+
+// One event, by value.
+pub fn step(a: Account, e: Event) -> Posted<Account>
+    ensures { stepped_of result.account result.answer ≡ step_of a e }
 {
-    let mut b = a;
-    let t = b.terms;
-    let s = b.totals;
-    let number = (e.number % MAX_PAYMENTS) as usize;
-    let payment = b.payments[number];
-    let usage = (e.usage % DAY_COUNT) as usize;
-    let day = b.days[usage];
-    let m = moves::move_of(t, s, payment, day, &b.charges, &b.marks, &b.warned, e);
-    if m.code == 0 {
-        let totals = m.totals;
-        b.totals = totals;
-        let paid = m.payment;
-        b.payments[m.number as usize] = paid;
-        let used = m.day;
-        b.days[usage] = used;
-        b.charges[m.place as usize] = m.sum;
-        b.warned[(e.day % DAY_COUNT) as usize] = m.warned;
-        marks::set(&mut b.marks, m.kind, m.from, m.to);
-    }
-    Posted {
-        account: b,
-        code: m.code,
-        value: m.value,
-    }
+    let mut account = a;
+    let answer = account.post(e);
+    Posted { account, answer }
 }

@@ -11,19 +11,18 @@ use Rattle.marks.specs.Marks.{latest_warning, is_missing}
 use Rattle.terms.specs.declared.Terms.{Terms}
 use Rattle.ledger.specs.Event.{in_limits}
 use Rattle.ledger.specs.declared.Event.{Event}
-use Rattle.moves.specs.Moves.{max_total, early_code, refusing, by_sort, move_of, by_usage, charge_place, plan_condition_met, barred_on, pay_of, reverse_of, credit_of, charge_of, estimate_of, estimated_of, read_of, metered_of, warn_of, mark_of, deferring_of, plan_of, served_of, disconnect_of, connect_of}
+use Rattle.moves.specs.Moves.{Moved, max_total, early_code, refusing, by_sort, move_of, by_usage, charge_place, plan_condition_met, barred_on, pay_of, reverse_of, credit_of, charge_of, estimate_of, estimated_of, read_of, metered_of, warn_of, mark_of, deferring_of, plan_of, served_of, disconnect_of, connect_of}
 use Rattle.moves.specs.declared.Usage.{Usage}
 use Rattle.moves.specs.declared.Usage.TheVariants.{Blank, Estimated, Metered}
-use Rattle.moves.specs.declared.Move.{Move}
 use Rattle.moves.proofs.Ways as ways
 use Rattle.moves.proofs.Early.{Early, early, month-on, charge-limits}
 
 -- what holds of a test's move, either way
-pub branch : (P : Move → Type 0) (b : Bool) {x y : Move} → (b ≡ true → P x) → (b ≡ false → P y) → P (cond b x y)
+pub branch : (P : Moved → Type 0) (b : Bool) {x y : Moved} → (b ≡ true → P x) → (b ≡ false → P y) → P (cond b x y)
 branch P true f g = f refl
 branch P false f g = g refl
 
-module _ (t : Terms) (m : Move) (charges marks warned : List ℕ) (e : Event) where
+module _ (t : Terms) (m : Moved) (charges marks warned : List ℕ) (e : Event) where
   pub refused-early : (early_code t m.totals e ≡ 0 → ⊥) → move_of t m charges marks warned e ≡ refusing m (early_code t m.totals e)
   unfolding move_of
   refused-early h = ways.no _ _ _ (ne_eqb (early_code t m.totals e) 0 h)
@@ -36,7 +35,7 @@ module _ (t : Terms) (m : Move) (charges marks warned : List ℕ) (e : Event) wh
   of-sort s = ap (λ (k : ℕ). by_sort t m charges marks warned e k) s
 
   -- what holds of each sort's move, and of the refusal of another sort
-  pub record OfEach (P : Move → Type 0) : Type 0 where
+  pub record OfEach (P : Moved → Type 0) : Type 0 where
     pub pays : e.sort ≡ 1 → P (pay_of t m e)
     pub reverses : e.sort ≡ 2 → P (reverse_of t m e)
     pub credits : e.sort ≡ 3 → P (credit_of t m e)
@@ -50,8 +49,8 @@ module _ (t : Terms) (m : Move) (charges marks warned : List ℕ) (e : Event) wh
     pub connects : e.sort ≡ 11 → P (connect_of t m e)
     pub other : in_limits e ≡ false → P (refusing m 3)
 
-  module _ (P : Move → Type 0) where
-    or : (k : ℕ) {x y : Move} → (e.sort ≡ k → P x) → (eqb e.sort k ≡ false → P y) → P (cond (eqb e.sort k) x y)
+  module _ (P : Moved → Type 0) where
+    or : (k : ℕ) {x y : Moved} → (e.sort ≡ k → P x) → (eqb e.sort k ≡ false → P y) → P (cond (eqb e.sort k) x y)
     or k f g = branch P (eqb e.sort k) (λ y. f (eqb-true e.sort k y)) g
 
     -- holds of the event's
@@ -63,20 +62,20 @@ module _ (t : Terms) (m : Move) (charges marks warned : List ℕ) (e : Event) wh
         (λ q. h.other (simp (f₁, f₂, f₃, f₄, f₅, f₆, f₇, f₈, f₉, f, q)))))))))))))
 
 -- What holds of every sort's move of the cells m: the places that it names are there, and a refusal leaves every cell as it was.
-pub record Sound (m x : Move) : Type 0 where
+pub record Sound (m x : Moved) : Type 0 where
   pub number : x.number < 128
   pub place : x.place < 75
   pub refused : (x.code ≡ 0 → ⊥) → x ≡ refusing m x.code
 
 -- the places of the cells before
-abbrev pub Placed : Move → Type 0
+abbrev pub Placed : Moved → Type 0
 Placed m = (m.number < 128) × (m.place < 75)
 
-module _ (t : Terms) (m : Move) (charges marks warned : List ℕ) (e : Event) (h : Placed m) where
-  test : (b : Bool) {x y : Move} → Sound m x → Sound m y → Sound m (cond b x y)
+module _ (t : Terms) (m : Moved) (charges marks warned : List ℕ) (e : Event) (h : Placed m) where
+  test : (b : Bool) {x y : Moved} → Sound m x → Sound m y → Sound m (cond b x y)
   test b f g = branch (Sound m) b (λ _. f) (λ _. g)
 
-  by-usage : (u : Usage) {x y : Move} {f : ℕ → Move} → Sound m x → ((old : ℕ) → Sound m (f old)) → Sound m y → Sound m (by_usage u x f y)
+  by-usage : (u : Usage) {x y : Moved} {f : ℕ → Moved} → Sound m x → ((old : ℕ) → Sound m (f old)) → Sound m y → Sound m (by_usage u x f y)
   by-usage Blank b s r = b
   by-usage (Estimated wh cost) b s r = s cost
   by-usage (Metered wh cost) b s r = r
@@ -84,11 +83,11 @@ module _ (t : Terms) (m : Move) (charges marks warned : List ℕ) (e : Event) (h
   no : (k : ℕ) → Sound m (refusing m k)
   no k = record { number = h.0; place = h.1; refused = λ _. refl }
 
-  taken : {x : Move} → x.code ≡ 0 → x.number < 128 → x.place < 75 → Sound m x
+  taken : {x : Moved} → x.code ≡ 0 → x.number < 128 → x.place < 75 → Sound m x
   taken c n p = record { number = n; place = p; refused = λ z. absurd (z c) }
 
   -- accepted, at the same places
-  yes : {x : Move} → x.code ≡ 0 → x.number ≡ m.number → x.place ≡ m.place → Sound m x
+  yes : {x : Moved} → x.code ≡ 0 → x.number ≡ m.number → x.place ≡ m.place → Sound m x
   yes c n p = taken c (rw n h.0) (rw p h.1)
 
   charge-place : Early t m.totals e → e.sort ≡ 4 → charge_place t e < 75

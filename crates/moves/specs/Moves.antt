@@ -1,5 +1,5 @@
 -- What one event does to the totals and to the cells that it may change: the step, without the record around it.
-use Rattle.std.specs.Prelude.{ℕ, ◌+◌, ◌*◌, ◌-◌, ◌/◌, ◌%◌, ◌<◌, min, ◌≡◌, Bool, true, false, cond, not, ◌&&◌, ◌||◌, List, get_or, ltb, leb, eqb}
+use Rattle.std.specs.Prelude.{ℕ, ◌+◌, ◌*◌, ◌-◌, ◌/◌, ◌%◌, ◌<◌, min, ◌≡◌, Bool, true, false, cond, not, ◌&&◌, ◌||◌, List, get_or, ltb, leb, eqb, Option, Some, None, Result, Ok, Err}
 use Rattle.calendar.specs.Calendar.{saturday, final_day, day_count, month_count, weekday_on, month_on}
 use Rattle.tariff.specs.Tariff.{cost_of}
 use Rattle.marks.specs.Marks.{barring_on, latest_warning, weather_near, is_missing}
@@ -8,11 +8,14 @@ use Rattle.terms.specs.declared.Terms.{Terms}
 use Rattle.ledger.specs.Event.{in_limits, charge_kind_count}
 use Rattle.ledger.specs.Rules.{max_events, max_payments, required_debt}
 use Rattle.ledger.specs.declared.Event.{Event}
+use Rattle.ledger.specs.declared.Refusal.{Refusal}
+use Rattle.ledger.specs.Refusals.{refusal_code}
 use Rattle.moves.specs.declared.Usage.{Usage}
 use Rattle.moves.specs.declared.Usage.TheVariants.{Blank, Estimated, Metered}
 use Rattle.moves.specs.declared.Day.{Day}
 use Rattle.moves.specs.declared.Payment.{Payment}
 use Rattle.moves.specs.declared.Totals.{Totals}
+use Rattle.moves.specs.declared.Mark.{Mark}
 use Rattle.moves.specs.declared.Move.{Move}
 
 -- No list of events takes a total past 2 ^ 60, or the payments past their limit: a record where one is past it is no account of this
@@ -70,7 +73,23 @@ with_service s b = totals s.credit s.debit s.plan s.standing s.count s.events s.
 
 -- ---- the cells after an event
 
-abbrev pub move : ℕ → ℕ → Totals → ℕ → Payment → Day → ℕ → ℕ → ℕ → ℕ → ℕ → ℕ → Move
+-- The answer, and the cells: the totals, payment `number`, the event's usage day, the charges summed at `place`, the warning byte of the event's
+-- day, and the mark set from day `from` to day `to`, none where `to` is before `from`.
+pub record Moved : Type 0 where
+  pub code : ℕ
+  pub value : ℕ
+  pub totals : Totals
+  pub number : ℕ
+  pub payment : Payment
+  pub day : Day
+  pub place : ℕ
+  pub sum : ℕ
+  pub warned : ℕ
+  pub kind : ℕ
+  pub from : ℕ
+  pub to : ℕ
+
+abbrev pub move : ℕ → ℕ → Totals → ℕ → Payment → Day → ℕ → ℕ → ℕ → ℕ → ℕ → ℕ → Moved
 move code value totals number payment day place sum warned kind from to = record {
   code = code;
   value = value;
@@ -87,37 +106,37 @@ move code value totals number payment day place sum warned kind from to = record
 }
 
 -- m with this answer and these totals; below, with another payment, usage day, sum of charges, warning byte or mark
-abbrev pub answering : Move → ℕ → ℕ → Totals → Move
+abbrev pub answering : Moved → ℕ → ℕ → Totals → Moved
 answering m code value s = move code value s m.number m.payment m.day m.place m.sum m.warned m.kind m.from m.to
 
-abbrev pub paying : Move → ℕ → Payment → Move
+abbrev pub paying : Moved → ℕ → Payment → Moved
 paying m number p = move m.code m.value m.totals number p m.day m.place m.sum m.warned m.kind m.from m.to
 
-abbrev pub on_day : Move → Usage → Move
+abbrev pub on_day : Moved → Usage → Moved
 on_day m u = move m.code m.value m.totals m.number m.payment (record { usage = u }) m.place m.sum m.warned m.kind m.from m.to
 
-abbrev pub charging : Move → ℕ → ℕ → Move
+abbrev pub charging : Moved → ℕ → ℕ → Moved
 charging m place sum = move m.code m.value m.totals m.number m.payment m.day place sum m.warned m.kind m.from m.to
 
-abbrev pub warning : Move → Move
+abbrev pub warning : Moved → Moved
 warning m = move m.code m.value m.totals m.number m.payment m.day m.place m.sum 1 m.kind m.from m.to
 
-abbrev pub marking : Move → ℕ → ℕ → ℕ → Move
+abbrev pub marking : Moved → ℕ → ℕ → ℕ → Moved
 marking m kind from to = move m.code m.value m.totals m.number m.payment m.day m.place m.sum m.warned kind from to
 
 -- a refusal moves nothing
-abbrev pub refusing : Move → ℕ → Move
+abbrev pub refusing : Moved → ℕ → Moved
 refusing m k = answering m k 0 m.totals
 
 -- accepted with the value: the cells of m, and these totals
-abbrev pub accepting : Move → Totals → ℕ → Move
+abbrev pub accepting : Moved → Totals → ℕ → Moved
 accepting m s v = answering m 0 v s
 
 -- ---- the sorts
 abbrev pub part_in : Terms → Totals → Event → ℕ
 part_in t s e = min s.plan (e.amount * t.share / 100)
 
-unfoldable pub pay_of : Terms → Move → Event → Move
+unfoldable pub pay_of : Terms → Moved → Event → Moved
 pay_of t m e =
     cond (leb max_payments m.totals.count) (refusing m 5)
     (accepting
@@ -130,7 +149,7 @@ pay_of t m e =
 abbrev pub reversing : Payment → Payment
 reversing p = record { day = p.day; amount = p.amount; part = p.part; reversed = true }
 
-unfoldable pub reverse_of : Terms → Move → Event → Move
+unfoldable pub reverse_of : Terms → Moved → Event → Moved
 reverse_of t m e =
     cond (leb m.totals.count e.number) (refusing m 6)
     (cond m.payment.reversed (refusing m 6)
@@ -141,7 +160,7 @@ reverse_of t m e =
     (m.totals.plan + m.payment.part))
     0))
 
-unfoldable pub credit_of : Terms → Move → Event → Move
+unfoldable pub credit_of : Terms → Moved → Event → Moved
 credit_of t m e = accepting m (credited (tallied m.totals e.day) e.amount) 0
 
 -- a place for each month and charge kind
@@ -152,7 +171,7 @@ charge_places = month_count * charge_kind_count
 abbrev pub charge_place : Terms → Event → ℕ
 charge_place t e = charge_kind_count * month_on t.opened e.day + (e.kind - 1)
 
-unfoldable pub charge_of : Terms → Move → List ℕ → Event → Move
+unfoldable pub charge_of : Terms → Moved → List ℕ → Event → Moved
 charge_of t m charges e =
     cond (ltb max_total (get_or charges (charge_place t e) 0)) (refusing m 1)
     (accepting
@@ -163,14 +182,14 @@ charge_of t m charges e =
 abbrev pub wh_cost : Terms → Event → ℕ
 wh_cost t e = cost_of e.wh t.price
 
-unfoldable pub estimated_of : Terms → Move → Event → Move
+unfoldable pub estimated_of : Terms → Moved → Event → Moved
 estimated_of t m e =
     accepting
     (on_day m (Estimated e.wh (wh_cost t e)))
     (with_standing (debited (tallied m.totals e.day) (wh_cost t e)) (m.totals.standing + wh_cost t e))
     (wh_cost t e)
 
-unfoldable pub metered_of : Terms → Move → Event → ℕ → Move
+unfoldable pub metered_of : Terms → Moved → Event → ℕ → Moved
 metered_of t m e old =
     accepting
     (on_day m (Metered e.wh (wh_cost t e)))
@@ -183,26 +202,26 @@ by_usage Blank b s m = b
 by_usage (Estimated wh cost) b s m = s cost
 by_usage (Metered wh cost) b s m = m
 
-unfoldable pub estimate_of : Terms → Move → Event → Move
+unfoldable pub estimate_of : Terms → Moved → Event → Moved
 estimate_of t m e =
     cond (leb e.day e.usage) (refusing m 7)
     (by_usage m.day.usage (estimated_of t m e) (λ (old : ℕ). refusing m 8) (refusing m 8))
 
-unfoldable pub read_of : Terms → Move → Event → Move
+unfoldable pub read_of : Terms → Moved → Event → Moved
 read_of t m e =
     cond (leb e.day e.usage) (refusing m 7)
     (by_usage m.day.usage (metered_of t m e 0) (λ (old : ℕ). metered_of t m e old) (refusing m 8))
 
-unfoldable pub warn_of : Terms → Move → Event → Move
+unfoldable pub warn_of : Terms → Moved → Event → Moved
 warn_of t m e = accepting (warning m) (tallied m.totals e.day) 0
 
-unfoldable pub mark_of : Terms → Move → Event → Move
+unfoldable pub mark_of : Terms → Moved → Event → Moved
 mark_of t m e = accepting (marking m e.kind e.from e.to) (tallied m.totals e.day) 0
 
 abbrev pub deferral_of : Terms → Totals → ℕ
 deferral_of t s = t.connect + s.debit - s.credit
 
-unfoldable pub deferring_of : Terms → Move → Event → Move
+unfoldable pub deferring_of : Terms → Moved → Event → Moved
 deferring_of t m e =
     cond (ltb 0 m.totals.plan) (refusing m 10)
     (accepting m
@@ -216,29 +235,29 @@ plan_condition_met t s marks e =
     && weather_near marks (weekday_on t.opened e.day) e.day)
     (ltb s.credit s.debit)
 
-unfoldable pub plan_of : Terms → Move → List ℕ → Event → Move
+unfoldable pub plan_of : Terms → Moved → List ℕ → Event → Moved
 plan_of t m marks e = cond (plan_condition_met t m.totals marks e) (deferring_of t m e) (refusing m 9)
 
-unfoldable pub served_of : Terms → Move → Event → Bool → Move
+unfoldable pub served_of : Terms → Moved → Event → Bool → Moved
 served_of t m e b = accepting m (with_service (tallied m.totals e.day) b) 0
 
 abbrev pub barred_on : Terms → List ℕ → Event → Bool
 barred_on t marks e = leb saturday (weekday_on t.opened e.day) || barring_on marks e.day
 
-unfoldable pub disconnect_of : Terms → Move → List ℕ → List ℕ → Event → Move
+unfoldable pub disconnect_of : Terms → Moved → List ℕ → List ℕ → Event → Moved
 disconnect_of t m marks warned e =
     cond (not m.totals.on) (refusing m 11)
     (cond (leb (m.totals.debit + t.cutoff) m.totals.credit) (refusing m 12)
     (cond (is_missing (latest_warning warned e.day)) (refusing m 13)
     (cond (barred_on t marks e) (refusing m 14) (served_of t m e false))))
 
-unfoldable pub connect_of : Terms → Move → Event → Move
+unfoldable pub connect_of : Terms → Moved → Event → Moved
 connect_of t m e =
     cond m.totals.on (refusing m 11)
     (cond (ltb m.totals.credit (m.totals.debit + t.connect)) (refusing m 12) (served_of t m e true))
 
 -- the move of sort k
-unfoldable pub by_sort : Terms → Move → List ℕ → List ℕ → List ℕ → Event → ℕ → Move
+unfoldable pub by_sort : Terms → Moved → List ℕ → List ℕ → List ℕ → Event → ℕ → Moved
 by_sort t m charges marks warned e k =
     cond (eqb k 1) (pay_of t m e)
     (cond (eqb k 2) (reverse_of t m e)
@@ -253,17 +272,41 @@ by_sort t m charges marks warned e k =
     (cond (eqb k 11) (connect_of t m e) (refusing m 3)))))))))))
 
 -- The refusals that every sort has come first, then the sort's own.
-unfoldable pub move_of : Terms → Move → List ℕ → List ℕ → List ℕ → Event → Move
+unfoldable pub move_of : Terms → Moved → List ℕ → List ℕ → List ℕ → Event → Moved
 move_of t m charges marks warned e =
     cond (eqb (early_code t m.totals e) 0) (by_sort t m charges marks warned e e.sort) (refusing m (early_code t m.totals e))
 
 -- Before an event: no answer yet, and the cells that it may change as they are. A number past the payments, or a day past the account's, is
 -- looked at by its remainder: where the sort names the field the event is refused, else the cell is written back as it was.
-unfoldable pub cells_before : Totals → Payment → Day → List ℕ → List ℕ → Event → Move
+unfoldable pub cells_before : Totals → Payment → Day → List ℕ → List ℕ → Event → Moved
 cells_before s payment day charges warned e = move 0 0 s (e.number % max_payments) payment day 0 (get_or charges 0 0) (get_or warned (e.day % day_count) 0) 0 1 0
 
+-- ---- the code's moves
+
+-- the mark of a move of the code; without one from day 1 to day 0
+abbrev pub mark_kind : Option Mark → ℕ
+mark_kind (Some mark) = mark.kind
+mark_kind None = 0
+
+abbrev pub mark_from : Option Mark → ℕ
+mark_from (Some mark) = mark.from
+mark_from None = 1
+
+abbrev pub mark_to : Option Mark → ℕ
+mark_to (Some mark) = mark.to
+mark_to None = 0
+
+-- a move of the code, which is of an event that nothing refuses
+abbrev pub accepted : Move → Moved
+accepted m = move 0 m.value m.totals m.number m.payment m.day m.place m.sum m.warned (mark_kind m.mark) (mark_from m.mark) (mark_to m.mark)
+
+-- a move of the cells, or a refusal of the event, which leaves them as they were
+abbrev pub moved_of : Moved → Result Move Refusal → Moved
+moved_of before (Ok m) = accepted m
+moved_of before (Err r) = refusing before (refusal_code r)
+
 -- What `move_of` promises: the move, and that the places it names are there.
-pub record IsMove (t : Terms) (s : Totals) (payment : Payment) (day : Day) (charges marks warned : List ℕ) (e : Event) (m : Move) : Type 0 where
-  pub move : m ≡ move_of t (cells_before s payment day charges warned e) charges marks warned e
-  pub number : m.number < max_payments
-  pub place : m.place < charge_places
+pub record IsMove (t : Terms) (s : Totals) (payment : Payment) (day : Day) (charges marks warned : List ℕ) (e : Event) (r : Result Move Refusal) : Type 0 where
+  pub move : moved_of (cells_before s payment day charges warned e) r ≡ move_of t (cells_before s payment day charges warned e) charges marks warned e
+  pub number : (moved_of (cells_before s payment day charges warned e) r).number < max_payments
+  pub place : (moved_of (cells_before s payment day charges warned e) r).place < charge_places

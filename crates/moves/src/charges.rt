@@ -1,27 +1,34 @@
 // Charges, summed by month and kind.
 ghost use Rattle.std.specs.Prelude.{◌≡◌};
-ghost use Rattle.moves.specs.Moves.{early_code, charge_of};
+ghost use Rattle.moves.specs.Moves.{accepted, moved_of, charge_of};
 
-use super::{Charges, MAX_TOTAL, Move, accept, refuse};
-use ledger::{CHARGE_KIND_COUNT, Event};
-use terms::Terms;
+use super::guard::Checked;
+use super::{Charges, MAX_TOTAL, Move, Totals};
+use ledger::{CHARGE_KIND_COUNT, Refusal};
 
 #[tactic(auto, using(crate::proofs::Early::early, crate::proofs::Early::charge_bounds), unfolding(crate::specs::Moves::charge_of))]
-pub(crate) fn charge(t: Terms, mut m: Move, charges: &Charges, e: Event) -> Move
-    requires { (early_code t m.totals e ≡ 0) × (e.sort ≡ 4) }
-    ensures { result ≡ charge_of t m charges.now e }
+pub(crate) fn charge(checked: Checked, charges: &Charges) -> Result<Move, Refusal>
+    requires { checked.event.sort ≡ 4 }
+    ensures { moved_of (accepted checked.before) result ≡ charge_of checked.terms (accepted checked.before) charges.now checked.event }
 {
-    let opened = t.opened;
+    let before = checked.before;
+    let e = checked.event;
+    let opened = checked.terms.opened;
     let month = calendar::month_of(opened, e.day);
     let place = CHARGE_KIND_COUNT * month + (e.kind - 1);
-    let i = place as usize;
-    let sum = charges[i];
+    let sum = charges[place as usize];
     if sum > MAX_TOTAL {
-        return refuse(m, 1);
+        return Err(Refusal::Terms);
     }
-    m.place = place;
-    m.sum = sum + e.amount as u64;
-    let mut n = m.totals;
-    n.debit = n.debit + e.amount as u64;
-    accept(m, n, e.day, 0)
+    let s = before.totals.tallied(e.day);
+    Ok(Move {
+        value: 0,
+        totals: Totals {
+            debit: s.debit + e.amount as u64,
+            ..s
+        },
+        place,
+        sum: sum + e.amount as u64,
+        ..before
+    })
 }

@@ -1,66 +1,75 @@
 // Usage days: estimates and reads.
 ghost use Rattle.std.specs.Prelude.{◌≡◌};
-ghost use Rattle.moves.specs.Moves.{early_code, estimate_of, read_of};
+ghost use Rattle.moves.specs.Moves.{accepted, moved_of, estimate_of, read_of};
 
-use super::payments::less;
-use super::{Day, Move, Usage, accept, refuse};
-use ledger::Event;
-use terms::Terms;
+use super::guard::Checked;
+use super::{Day, Move, Totals, Usage};
+use ledger::Refusal;
 
 #[tactic(auto, using(crate::proofs::Early::early, crate::proofs::Early::estimate_cost), unfolding(crate::specs::Moves::estimate_of, crate::specs::Moves::estimated_of))]
-pub(crate) fn estimate(t: Terms, mut m: Move, e: Event) -> Move
-    requires { (early_code t m.totals e ≡ 0) × (e.sort ≡ 5) }
-    ensures { result ≡ estimate_of t m e }
+pub(crate) fn estimate(checked: Checked) -> Result<Move, Refusal>
+    requires { checked.event.sort ≡ 5 }
+    ensures { moved_of (accepted checked.before) result ≡ estimate_of checked.terms (accepted checked.before) checked.event }
 {
+    let before = checked.before;
+    let e = checked.event;
     if e.usage >= e.day {
-        return refuse(m, 7);
+        return Err(Refusal::UsageDay);
     }
-    let d = m.day;
-    let u = d.usage;
-    let Usage::Blank = u else {
-        return refuse(m, 8);
-    };
-    let cost = tariff::cost(e.wh, t.price);
-    let day = Day {
-        usage: Usage::Estimated {
-            wh: e.wh,
-            cost: cost as u32,
+    if before.day.usage != Usage::Blank {
+        return Err(Refusal::UsageState);
+    }
+    let cost = tariff::cost(e.wh, checked.terms.price);
+    let s = before.totals.tallied(e.day);
+    Ok(Move {
+        value: cost,
+        totals: Totals {
+            debit: s.debit + cost,
+            standing: s.standing + cost,
+            ..s
         },
-    };
-    m.day = day;
-    let mut n = m.totals;
-    n.debit = n.debit + cost;
-    n.standing = n.standing + cost;
-    accept(m, n, e.day, cost)
+        day: Day {
+            usage: Usage::Estimated {
+                wh: e.wh,
+                cost: cost as u32,
+            },
+        },
+        ..before
+    })
 }
 
 #[tactic(auto, using(crate::proofs::Early::early, crate::proofs::Early::read_cost), unfolding(crate::specs::Moves::read_of, crate::specs::Moves::metered_of))]
-pub(crate) fn read(t: Terms, mut m: Move, e: Event) -> Move
-    requires { (early_code t m.totals e ≡ 0) × (e.sort ≡ 6) }
-    ensures { result ≡ read_of t m e }
+pub(crate) fn read(checked: Checked) -> Result<Move, Refusal>
+    requires { checked.event.sort ≡ 6 }
+    ensures { moved_of (accepted checked.before) result ≡ read_of checked.terms (accepted checked.before) checked.event }
 {
+    let before = checked.before;
+    let e = checked.event;
     if e.usage >= e.day {
-        return refuse(m, 7);
+        return Err(Refusal::UsageDay);
     }
-    let d = m.day;
-    let u = d.usage;
     // the cost of the estimate that the read takes back
-    let old = match u {
+    let old = match before.day.usage {
         Usage::Blank => 0,
-        Usage::Estimated { wh: _, cost } => cost,
-        Usage::Metered { wh: _, cost: _ } => return refuse(m, 8),
+        Usage::Estimated { wh: _, cost } => cost as u64,
+        Usage::Metered { wh: _, cost: _ } => return Err(Refusal::UsageState),
     };
-    let cost = tariff::cost(e.wh, t.price);
-    let day = Day {
-        usage: Usage::Metered {
-            wh: e.wh,
-            cost: cost as u32,
+    let cost = tariff::cost(e.wh, checked.terms.price);
+    let s = before.totals.tallied(e.day);
+    Ok(Move {
+        value: cost,
+        totals: Totals {
+            credit: s.credit + old,
+            debit: s.debit + cost,
+            standing: s.standing.saturating_sub(old),
+            ..s
         },
-    };
-    m.day = day;
-    let mut n = m.totals;
-    n.credit = n.credit + old as u64;
-    n.debit = n.debit + cost;
-    n.standing = less(n.standing, old as u64);
-    accept(m, n, e.day, cost)
+        day: Day {
+            usage: Usage::Metered {
+                wh: e.wh,
+                cost: cost as u32,
+            },
+        },
+        ..before
+    })
 }

@@ -1,31 +1,50 @@
 // The checks that every event passes first: that the record is an account, then codes 2, 3 and 4.
-ghost use Rattle.std.specs.Prelude.{◌≡◌};
+ghost use Rattle.std.specs.Prelude.{◌≡◌, IfOk};
+ghost use Rattle.ledger.specs.Refusals.{code_of};
 ghost use Rattle.moves.specs.Moves.{early_code};
 
-use super::{Totals, is_account};
+use super::{Move, Totals, is_account};
 use calendar::FINAL_DAY;
-use ledger::{Event, MAX_EVENTS};
+use ledger::{Event, MAX_EVENTS, Refusal};
 use terms::Terms;
 
-// 1 where the record is no account; 2, 3 or 4; else 0.
+// An event that passed the checks, with the account's terms, and the cells before it.
+#[derive(Clone, Copy)]
+pub(crate) struct Checked {
+    pub terms: Terms,
+    pub before: Move,
+    pub event: Event,
+    ghost passed: { early_code terms before.totals event ≡ 0 },
+}
+
 #[tactic(auto, unfolding(crate::specs::Moves::early_code))]
-pub(crate) fn early(t: Terms, s: Totals, e: Event) -> u8
-    ensures { result ≡ early_code t s e }
+fn early(t: Terms, s: Totals, e: Event) -> Result<(), Refusal>
+    ensures { code_of result ≡ early_code t s e }
 {
     if !is_account(t, s) {
-        return 1;
+        return Err(Refusal::Terms);
     }
-    if e.day < s.last {
-        return 2;
+    if e.day < s.last || e.day > FINAL_DAY {
+        return Err(Refusal::Day);
     }
-    if e.day > FINAL_DAY {
-        return 2;
-    }
-    if limits::check(e) != 0 {
-        return 3;
-    }
+    limits::check(e)?;
     if s.events >= MAX_EVENTS {
-        return 4;
+        return Err(Refusal::Full);
     }
-    0
+    Ok(())
+}
+
+impl Checked {
+    // Refused by 1 where the record is no account, then by 2, 3 or 4.
+    pub(crate) fn new(terms: Terms, before: Move, event: Event) -> Result<Checked, Refusal>
+        ensures code { code_of result ≡ early_code terms before.totals event }
+        ensures same { IfOk result (λ c. (c.terms ≡ terms) × (c.before ≡ before) × (c.event ≡ event)) }
+    {
+        early(terms, before.totals, event)?;
+        Ok(Checked {
+            terms,
+            before,
+            event,
+        })
+    }
 }

@@ -4,10 +4,11 @@
 
 ghost use Rattle.std.specs.Prelude.{◌≡◌, ◌<◌};
 ghost use Rattle.ledger.specs.Rules.{max_events};
-ghost use Rattle.moves.specs.Moves.{is_account, tallied, accepting, refusing, early_code, by_sort, IsMove};
+ghost use Rattle.moves.specs.Moves.{is_account, tallied, accepted, moved_of, by_sort, IsMove};
 
 use calendar::DAY_COUNT;
-use ledger::{Event, MAX_PAYMENTS};
+use guard::Checked;
+use ledger::{Event, MAX_PAYMENTS, Refusal};
 use marks::DayBytes;
 use terms::Terms;
 
@@ -18,19 +19,20 @@ mod payments;
 mod service;
 
 // A usage day's state, with its Wh and cost.
-#[derive(Clone, Copy)]
+#[derive(Clone, Copy, Debug, PartialEq, Eq, Default)]
 pub enum Usage {
+    #[default]
     Blank,
     Estimated { wh: u32, cost: u32 },
     Metered { wh: u32, cost: u32 },
 }
 
-#[derive(Clone, Copy)]
+#[derive(Clone, Copy, Debug, PartialEq, Eq, Default)]
 pub struct Day {
     pub usage: Usage,
 }
 
-#[derive(Clone, Copy)]
+#[derive(Clone, Copy, Debug, PartialEq, Eq, Default)]
 pub struct Payment {
     pub day: u32,
     pub amount: u32,
@@ -40,7 +42,7 @@ pub struct Payment {
 }
 
 // Credits and debits are separate growing totals: the balance B is credit less debit.
-#[derive(Clone, Copy)]
+#[derive(Clone, Copy, Debug, PartialEq, Eq, Default)]
 pub struct Totals {
     pub credit: u64,
     pub debit: u64,
@@ -57,10 +59,31 @@ pub struct Totals {
     pub on: bool,
 }
 
-// The answer, the totals, and the one cell of each array that the event may change; before the event, as they are.
-#[derive(Clone, Copy)]
+impl Totals {
+    // With one more event, of the day.
+    fn tallied(self, day: u32) -> Totals
+        requires { self.events < max_events }
+        ensures { result ≡ tallied self day }
+    {
+        Totals {
+            events: self.events + 1,
+            last: day,
+            ..self
+        }
+    }
+}
+
+// A mark to be set from day `from` to day `to`.
+#[derive(Clone, Copy, Debug, PartialEq, Eq)]
+pub struct Mark {
+    pub kind: u32,
+    pub from: u32,
+    pub to: u32,
+}
+
+// What an accepted event is answered, the totals after it, and the one cell of each array that it may change.
+#[derive(Clone, Copy, Debug, PartialEq, Eq)]
 pub struct Move {
-    pub code: u8,
     pub value: u64,
     pub totals: Totals,
     // payment `number`
@@ -73,10 +96,7 @@ pub struct Move {
     pub sum: u64,
     // the warning byte of the event's day
     pub warned: u8,
-    // the mark set from day `from` to day `to`; none where `to` is before `from`
-    pub kind: u32,
-    pub from: u32,
-    pub to: u32,
+    pub mark: Option<Mark>,
 }
 
 // A place for each month and charge kind: month m's charges of kind k are summed at 5 m + k - 1.
@@ -92,109 +112,70 @@ pub const MAX_TOTAL: u64 = 1152921504606846976;
 pub fn is_account(t: Terms, s: Totals) -> bool
     ensures { result ≡ is_account t s }
 {
-    if terms::check(t) != 0 {
-        return false;
-    }
-    if s.credit > MAX_TOTAL {
-        return false;
-    }
-    if s.debit > MAX_TOTAL {
-        return false;
-    }
-    if s.plan > MAX_TOTAL {
-        return false;
-    }
-    if s.standing > MAX_TOTAL {
-        return false;
-    }
-    s.count <= MAX_PAYMENTS
-}
-
-fn refuse(mut m: Move, k: u8) -> Move
-    ensures { result ≡ refusing m k }
-{
-    m.code = k;
-    m.value = 0;
-    m
-}
-
-// The move of an accepted event of that day, with the value: these totals, with one more event.
-fn accept(mut m: Move, mut s: Totals, day: u32, value: u64) -> Move
-    requires { s.events < max_events }
-    ensures { result ≡ accepting m (tallied s day) value }
-{
-    s.events = s.events + 1;
-    s.last = day;
-    m.code = 0;
-    m.value = value;
-    m.totals = s;
-    m
+    t.is_valid()
+        && s.credit <= MAX_TOTAL
+        && s.debit <= MAX_TOTAL
+        && s.plan <= MAX_TOTAL
+        && s.standing <= MAX_TOTAL
+        && s.count <= MAX_PAYMENTS
 }
 
 // The move of an event that passed the checks of every event, by its sort.
-#[tactic(auto, using(crate::proofs::Early::early), unfolding(crate::specs::Moves::by_sort, crate::specs::Moves::credit_of, crate::specs::Moves::mark_of, crate::specs::Moves::warn_of))]
+#[tactic(auto, unfolding(crate::specs::Moves::by_sort))]
 fn by_sort<'a>(
-    t: Terms,
-    m: Move,
+    checked: Checked,
     charges: &'a Charges,
     marks: &'a DayBytes,
     warned: &'a DayBytes,
-    e: Event,
-) -> Move
-    requires { early_code t m.totals e ≡ 0 }
-    ensures { result ≡ by_sort t m charges.now marks.now warned.now e e.sort }
+) -> Result<Move, Refusal>
+    ensures { moved_of (accepted checked.before) result ≡ by_sort checked.terms (accepted checked.before) charges.now marks.now warned.now checked.event checked.event.sort }
 {
-    let sort = e.sort;
-    match sort {
-        1 => return payments::pay(t, m, e),
-        2 => return payments::reverse(m, e),
-        3 => return payments::credit(m, e.day, e.amount),
-        4 => return charges::charge(t, m, charges, e),
-        5 => return days::estimate(t, m, e),
-        6 => return days::read(t, m, e),
-        7 => return service::warn(m, e.day),
-        8 => return service::mark(m, e),
-        9 => return service::plan(t, m, marks, e),
-        10 => return service::disconnect(t, m, marks, warned, e),
-        11 => return service::connect(t, m, e),
-        0 | 12..=4294967295 => return refuse(m, 3),
+    match checked.event.sort {
+        1 => payments::pay(checked),
+        2 => payments::reverse(checked),
+        3 => payments::credit(checked),
+        4 => charges::charge(checked, charges),
+        5 => days::estimate(checked),
+        6 => days::read(checked),
+        7 => service::warn(checked),
+        8 => service::mark(checked),
+        9 => service::plan(checked, marks),
+        10 => service::disconnect(checked, marks, warned),
+        11 => service::connect(checked),
+        0 | 12..=4294967295 => Err(Refusal::Limits),
     }
 }
 
-// The move of an event, of the totals, the payment at its number, its usage day, and the charges, marks and warnings as they are.
-// A refusal moves nothing. A number past the payments, or a day past the account's, is looked at by its remainder: a sort that names the
-// field refuses it.
+// What of an account an event may read: the terms, the totals, the payment at its number, its usage day, and the charges, marks and warnings.
+#[derive(Clone, Copy)]
+pub struct Cells<'a> {
+    pub terms: Terms,
+    pub totals: Totals,
+    pub payment: Payment,
+    pub day: Day,
+    pub charges: &'a Charges,
+    pub marks: &'a DayBytes,
+    pub warned: &'a DayBytes,
+}
+
+// The move of an event over the cells, or its refusal. A number past the payments, or a day past the account's, is looked at by its remainder:
+// a sort that names the field refuses it.
 #[tactic(auto, using(crate::proofs::Places::is_move), unfolding(crate::specs::Moves::cells_before, crate::specs::Moves::move_of))]
-pub fn move_of<'a>(
-    t: Terms,
-    s: Totals,
-    payment: Payment,
-    day: Day,
-    charges: &'a Charges,
-    marks: &'a DayBytes,
-    warned: &'a DayBytes,
-    e: Event,
-) -> Move
-    ensures { IsMove t s payment day charges.now marks.now warned.now e result }
+pub fn move_of(cells: Cells, e: Event) -> Result<Move, Refusal>
+    ensures { let c = cells.entry in
+        IsMove c.terms c.totals c.payment c.day c.charges.now c.marks.now c.warned.now e result }
 {
-    let at = (e.day % DAY_COUNT) as usize;
     let before = Move {
-        code: 0,
         value: 0,
-        totals: s,
+        totals: cells.totals,
         number: e.number % MAX_PAYMENTS,
-        payment,
-        day,
+        payment: cells.payment,
+        day: cells.day,
         place: 0,
-        sum: charges[0],
-        warned: warned[at],
-        kind: 0,
-        from: 1,
-        to: 0,
+        sum: cells.charges[0],
+        warned: cells.warned[(e.day % DAY_COUNT) as usize],
+        mark: None,
     };
-    let early = guard::early(t, s, e);
-    if early != 0 {
-        return refuse(before, early);
-    }
-    by_sort(t, before, charges, marks, warned, e)
+    let checked = Checked::new(cells.terms, before, e)?;
+    by_sort(checked, cells.charges, cells.marks, cells.warned)
 }

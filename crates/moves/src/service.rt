@@ -1,112 +1,136 @@
 // Warnings, marks, plans, disconnects and connects.
-ghost use Rattle.std.specs.Prelude.{◌≡◌, ◌<◌, ◌≤◌};
-ghost use Rattle.ledger.specs.Rules.{max_events};
-ghost use Rattle.moves.specs.Moves.{max_total, tallied, with_service, warning, marking, accepting, early_code, plan_condition_met, plan_of, disconnect_of, connect_of};
+ghost use Rattle.std.specs.Prelude.{◌≡◌, ◌≤◌};
+ghost use Rattle.moves.specs.Moves.{max_total, accepted, moved_of, warn_of, mark_of, plan_condition_met, plan_of, served_of, disconnect_of, connect_of};
 
-use super::{Move, Totals, accept, refuse};
+use super::guard::Checked;
+use super::{Mark, Move, Totals};
 use calendar::SATURDAY;
-use ledger::{Event, REQUIRED_DEBT};
+use ledger::{Event, REQUIRED_DEBT, Refusal};
 use marks::{DayBytes, Found};
 use terms::Terms;
 
-pub(crate) fn warn(mut m: Move, day: u32) -> Move
-    requires { m.totals.events < max_events }
-    ensures { result ≡ accepting (warning m) (tallied m.totals day) 0 }
+#[tactic(auto, using(crate::proofs::Early::early), unfolding(crate::specs::Moves::warn_of))]
+pub(crate) fn warn(checked: Checked) -> Result<Move, Refusal>
+    ensures { moved_of (accepted checked.before) result ≡ warn_of checked.terms (accepted checked.before) checked.event }
 {
-    let s = m.totals;
-    m.warned = 1;
-    accept(m, s, day, 0)
+    Ok(Move {
+        value: 0,
+        totals: checked.before.totals.tallied(checked.event.day),
+        warned: 1,
+        ..checked.before
+    })
 }
 
-pub(crate) fn mark(mut m: Move, e: Event) -> Move
-    requires { m.totals.events < max_events }
-    ensures { result ≡ accepting (marking m e.kind e.from e.to) (tallied m.totals e.day) 0 }
+#[tactic(auto, using(crate::proofs::Early::early), unfolding(crate::specs::Moves::mark_of))]
+pub(crate) fn mark(checked: Checked) -> Result<Move, Refusal>
+    ensures { moved_of (accepted checked.before) result ≡ mark_of checked.terms (accepted checked.before) checked.event }
 {
-    let s = m.totals;
-    m.kind = e.kind;
-    m.from = e.from;
-    m.to = e.to;
-    accept(m, s, e.day, 0)
+    let e = checked.event;
+    Ok(Move {
+        value: 0,
+        totals: checked.before.totals.tallied(e.day),
+        mark: Some(Mark {
+            kind: e.kind,
+            from: e.from,
+            to: e.to,
+        }),
+        ..checked.before
+    })
 }
 
 // Whether the plan kind's condition holds.
-fn allowed(t: Terms, s: Totals, marks: &DayBytes, e: Event) -> bool
+fn may_defer(t: Terms, s: Totals, marks: &DayBytes, e: Event) -> bool
     requires { s.credit ≤ max_total }
     ensures { result ≡ plan_condition_met t s marks.now e }
 {
     if e.kind != 1 {
         return s.credit < s.debit;
     }
-    if s.debit < s.credit + REQUIRED_DEBT {
-        return false;
-    }
     let opened = t.opened;
-    marks::weather_near(marks, calendar::weekday_of(opened, e.day), e.day)
+    s.debit >= s.credit + REQUIRED_DEBT
+        && marks::weather_near(marks, calendar::weekday_of(opened, e.day), e.day)
 }
 
 #[tactic(auto, using(crate::proofs::Early::early), unfolding(crate::specs::Moves::plan_of, crate::specs::Moves::deferring_of))]
-pub(crate) fn plan(t: Terms, m: Move, marks: &DayBytes, e: Event) -> Move
-    requires { (early_code t m.totals e ≡ 0) × (e.sort ≡ 9) }
-    ensures { result ≡ plan_of t m marks.now e }
+pub(crate) fn plan(checked: Checked, marks: &DayBytes) -> Result<Move, Refusal>
+    requires { checked.event.sort ≡ 9 }
+    ensures { moved_of (accepted checked.before) result ≡ plan_of checked.terms (accepted checked.before) marks.now checked.event }
 {
-    let s = m.totals;
-    if !allowed(t, s, marks, e) {
-        return refuse(m, 9);
+    let before = checked.before;
+    let t = checked.terms;
+    let e = checked.event;
+    if !may_defer(t, before.totals, marks, e) {
+        return Err(Refusal::PlanCondition);
     }
-    if s.plan > 0 {
-        return refuse(m, 10);
+    if before.totals.plan > 0 {
+        return Err(Refusal::PlanUnpaid);
     }
-    let d = t.connect as u64 + s.debit - s.credit;
-    let mut n = s;
-    n.credit = s.credit + d;
-    n.plan = s.plan + d;
-    accept(m, n, e.day, d)
+    let s = before.totals.tallied(e.day);
+    let deferred = t.connect as u64 + s.debit - s.credit;
+    Ok(Move {
+        value: deferred,
+        totals: Totals {
+            credit: s.credit + deferred,
+            plan: s.plan + deferred,
+            ..s
+        },
+        ..before
+    })
 }
 
-// The move of an accepted order: service on or off.
-fn served(m: Move, day: u32, on: bool) -> Move
-    requires { m.totals.events < max_events }
-    ensures { result ≡ accepting m (with_service (tallied m.totals day) on) 0 }
+// The move of an order that is carried out: service on or off.
+#[tactic(auto, using(crate::proofs::Early::early), unfolding(crate::specs::Moves::served_of))]
+fn served(checked: Checked, on: bool) -> Move
+    ensures { accepted result ≡ served_of checked.terms (accepted checked.before) checked.event on }
 {
-    let mut n = m.totals;
-    n.on = on;
-    accept(m, n, day, 0)
+    Move {
+        value: 0,
+        totals: Totals {
+            on,
+            ..checked.before.totals.tallied(checked.event.day)
+        },
+        ..checked.before
+    }
 }
 
-#[tactic(auto, using(crate::proofs::Early::early), unfolding(crate::specs::Moves::disconnect_of, crate::specs::Moves::served_of))]
-pub(crate) fn disconnect(t: Terms, m: Move, marks: &DayBytes, warned: &DayBytes, e: Event) -> Move
-    requires { (early_code t m.totals e ≡ 0) × (e.sort ≡ 10) }
-    ensures { result ≡ disconnect_of t m marks.now warned.now e }
+#[tactic(auto, using(crate::proofs::Early::early), unfolding(crate::specs::Moves::disconnect_of))]
+pub(crate) fn disconnect(
+    checked: Checked,
+    marks: &DayBytes,
+    warned: &DayBytes,
+) -> Result<Move, Refusal>
+    requires { checked.event.sort ≡ 10 }
+    ensures { moved_of (accepted checked.before) result ≡ disconnect_of checked.terms (accepted checked.before) marks.now warned.now checked.event }
 {
-    if !m.totals.on {
-        return refuse(m, 11);
+    let t = checked.terms;
+    let s = checked.before.totals;
+    let day = checked.event.day;
+    if !s.on {
+        return Err(Refusal::Service);
     }
-    if m.totals.credit >= m.totals.debit + t.cutoff as u64 {
-        return refuse(m, 12);
+    if s.credit >= s.debit + t.cutoff as u64 {
+        return Err(Refusal::Balance);
     }
-    let Found::At(_) = marks::latest(warned, e.day) else {
-        return refuse(m, 13);
+    let Found::At(_) = marks::latest(warned, day) else {
+        return Err(Refusal::Warning);
     };
-    let opened = t.opened;
-    if calendar::weekday_of(opened, e.day) >= SATURDAY {
-        return refuse(m, 14);
+    if calendar::weekday_of(t.opened, day) >= SATURDAY || marks::barring(marks, day) {
+        return Err(Refusal::Barred);
     }
-    if marks::barring(marks, e.day) {
-        return refuse(m, 14);
-    }
-    served(m, e.day, false)
+    Ok(served(checked, false))
 }
 
-#[tactic(auto, using(crate::proofs::Early::early), unfolding(crate::specs::Moves::connect_of, crate::specs::Moves::served_of))]
-pub(crate) fn connect(t: Terms, m: Move, e: Event) -> Move
-    requires { (early_code t m.totals e ≡ 0) × (e.sort ≡ 11) }
-    ensures { result ≡ connect_of t m e }
+#[tactic(auto, using(crate::proofs::Early::early), unfolding(crate::specs::Moves::connect_of))]
+pub(crate) fn connect(checked: Checked) -> Result<Move, Refusal>
+    requires { checked.event.sort ≡ 11 }
+    ensures { moved_of (accepted checked.before) result ≡ connect_of checked.terms (accepted checked.before) checked.event }
 {
-    if m.totals.on {
-        return refuse(m, 11);
+    let s = checked.before.totals;
+    if s.on {
+        return Err(Refusal::Service);
     }
-    if m.totals.credit < m.totals.debit + t.connect as u64 {
-        return refuse(m, 12);
+    if s.credit < s.debit + checked.terms.connect as u64 {
+        return Err(Refusal::Balance);
     }
-    served(m, e.day, true)
+    Ok(served(checked, true))
 }
