@@ -1,5 +1,5 @@
 -- The calendar's laws: how its dates, days and months are counted. Assumes nothing.
-use mathlib.Core.Path.{◌≡◌, refl, ◌∙◌, ap, ap₂}
+use mathlib.Core.Path.{◌≡◌, refl, sym, ◌∙◌, ap, ap₂}
 use mathlib.Core.Bool.{Bool, true, false, cond, ◌&&◌}
 use mathlib.Core.Logic.{◌↔◌}
 use Prim.Native.Nat.{ℕ, zero, suc, ◌+◌, ◌*◌, ◌-◌, ◌/◌, ◌%◌, ◌≤◌, ◌<◌, zero-le}
@@ -10,7 +10,7 @@ use lib.Dec.{leb, ltb, eqb}
 use Rattle.std.specs.Prelude.{Some, None}
 use borrow.Author.Tests.{ltb-true, ltb-false, leb-true, leb-false, eqb-true, eqb-false, le-leb}
 use Rattle.calendar.specs.Calendar.{date, leap_year, month_days, month_length, date_exists, next_of, date_on, total, length_after}
-use Rattle.calendar.specs.Calendar.{months_after, days_after, weekday_after, weekday_of, month_from, is_date_until, opens, is_in_reach, is_day, date_answer}
+use Rattle.calendar.specs.Calendar.{months_after, days_after, weekday_after, weekday_of, month_from, is_date_until, opens, is_in_reach, is_day, date_answer, weekday_answer, weekday_on}
 use Rattle.calendar.specs.declared.Date.{Date}
 use Rattle.calendar.proofs.Sums.{decide, and_left, and_right, leb-and, every, every-at, total_mono, Within, within-mono, within-unique}
 
@@ -97,8 +97,20 @@ pub real-reached : (d : Date) → Real d → d.year ≤ 2101 → is_in_reach d �
 unfolding is_in_reach is_date_until date_exists
 real-reached d r h = simp (le-leb 2000 d.year r.since, le-leb d.year 2101 h, le-leb 1 d.day r.day-low, le-leb d.day (month_length d.year d.month) r.day-high)
 
-pub opens-reached : (d : Date) → opens d ≡ true → is_in_reach d ≡ true
-opens-reached d e = let r = opens-real d e in real-reached d r.real (omega arith)
+-- what the code's reach tells
+pub record Reached (d : Date) : Type 0 where
+  pub since : 2000 ≤ d.year
+  pub until : d.year ≤ 2101
+  pub month-low : 1 ≤ d.month
+  pub month-high : d.month ≤ 12
+  pub day-low : 1 ≤ d.day
+
+pub reached : (d : Date) → is_in_reach d ≡ true → Reached d
+reached d e = let r = reached-real d e in
+    record { since = r.real.since; until = r.until; month-low = r.real.month-low; month-high = r.real.month-high; day-low = r.real.day-low }
+
+pub opens_reached : (d : Date) → opens d ≡ true → is_in_reach d ≡ true
+opens_reached d e = let r = opens-real d e in real-reached d r.real (omega arith)
 
 -- ---- days after 2000-01-01
 
@@ -277,3 +289,11 @@ pub answer-outside : (o : Date) (k : ℕ) → date_answer o k ≡ None → is_da
 answer-outside o k e = decide (is_day o k)
     (λ t. let f : Some (date_on o k) ≡ None = rw t at e in absurd (cc))
     (λ t. t)
+
+pub answer_month : (o d : Date) (k : ℕ) → date_answer o k ≡ Some d → month_from o d ≤ 14
+answer_month o d k e = let a = answer-on o k d e in rw a.date at (month-limit o k a.is-day)
+
+pub answer_weekday : (o d : Date) (k : ℕ) → date_answer o k ≡ Some d → weekday_answer d ≡ weekday_on o k
+answer_weekday o d k e = let a = answer-on o k d e in simp (a.is-day, sym a.date, day-reached o k a.is-day)
+
+pub ruleset weekdays = weekday-after

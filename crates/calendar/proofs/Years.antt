@@ -1,19 +1,42 @@
 -- The days before a month and before a year, as the code counts them. Assumes nothing.
-use mathlib.Core.Path.{◌≡◌, refl, ◌∙◌}
-use mathlib.Core.Bool.{Bool, true, false, cond}
+use mathlib.Core.Path.{◌≡◌, refl, sym, ap, ◌∙◌}
+use mathlib.Core.Bool.{Bool, true, false, cond, ◌&&◌}
+use mathlib.Core.List.{List, [], ◌∷◌}
+use lib.ListN.{get_or}
+use mir.Val.{bool_byte}
+use Rattle.std.specs.Prelude.{Some}
 use Prim.Native.Nat.{ℕ, zero, suc, ◌+◌, ◌*◌, ◌-◌, ◌/◌, ◌%◌, ◌≤◌, ◌<◌}
 use native.Mathlib.Nat.{add-zero}
 use native.Mathlib.Numerals.{add-one}
 use native.Mathlib.Omega.{arith}
 use lib.Dec.{leb, ltb, eqb}
 use borrow.Author.Tests.{ltb-true, ltb-false, leb-true, eqb-true, le-leb}
-use Rattle.calendar.specs.Calendar.{date, leap_year, month_days, month_length, date_exists, total, length_after, days_after, date_on}
-use Rattle.calendar.specs.Work.{days_before, year_length, InYear}
+use Rattle.calendar.specs.Calendar.{date, leap_year, month_days, month_length, date_exists, total, length_after, days_after, date_on, opens, date_answer}
+use Rattle.calendar.specs.Work.{days_before, year_length, InMonth, InYear}
 use Rattle.calendar.specs.declared.Date.{Date}
 use Rattle.calendar.proofs.Sums.{decide, every, every-at, total_mono}
-use Rattle.calendar.proofs.Laws.{Real, RealTo, real, day-real, same-day}
+use Rattle.calendar.proofs.Laws.{Real, RealTo, real, opens-real, day-real, same-day}
 
 -- ---- the months of a year
+
+-- the days before the months of a common year; a leap year has one more from March on
+abbrev pub before : List ℕ
+before = 0 ∷ 0 ∷ 31 ∷ 59 ∷ 90 ∷ 120 ∷ 151 ∷ 181 ∷ 212 ∷ 243 ∷ 273 ∷ 304 ∷ 334 ∷ []
+
+abbrev is-before : Bool → ℕ → Bool
+is-before leap m = eqb (get_or before m 0 + bool_byte (leap && ltb 2 m)) (days_before leap m)
+
+all-before : (leap : Bool) → every (is-before leap) 13 ≡ true
+unfolding days_before total
+all-before true = refl
+all-before false = refl
+
+pub before_is : (leap : Bool) (m : ℕ) → m ≤ 12 → get_or before m 0 + bool_byte (leap && ltb 2 m) ≡ days_before leap m
+before_is leap m h = eqb-true _ _ (every-at (is-before leap) 13 (all-before leap) m (omega arith))
+
+pub february : (y m : ℕ) → m ≡ 2 → month_length y m ≡ cond (leap_year y) 29 28
+unfolding month_length
+february y m e = rw e
 
 before-next : (leap : Bool) (m : ℕ) → days_before leap (m + 1) ≡ days_before leap m + month_days leap m
 unfolding days_before total
@@ -29,13 +52,16 @@ unfolding days_before total
 whole-year true = refl
 whole-year false = refl
 
-pub year-range : (y : ℕ) → (365 ≤ year_length y) × (year_length y ≤ 366)
+year-days : (leap : Bool) → (365 ≤ days_before leap 13) × (days_before leap 13 ≤ 366)
+year-days true = rw (whole-year true) (omega arith)
+year-days false = rw (whole-year false) (omega arith)
+
+pub year_whole : (y : ℕ) → year_length y ≡ days_before (leap_year y) 13
 unfolding year_length
-year-range y = by (leap_year y)
-  where
-    by : (leap : Bool) → (365 ≤ cond leap 366 365) × (cond leap 366 365 ≤ 366)
-    by true = omega arith
-    by false = omega arith
+year_whole y = sym (whole-year (leap_year y))
+
+pub year_range : (y : ℕ) → (365 ≤ year_length y) × (year_length y ≤ 366)
+year_range y = rw (year_whole y) (year-days (leap_year y))
 
 -- a month of the year n years after 2000
 length-in : (n j : ℕ) → j < 12 → length_after (12 * n + j) ≡ month_days (leap_year (2000 + n)) (j + 1)
@@ -64,7 +90,7 @@ year-sum n =
 
 -- the days of the n years from 2000: each has 365, and every fourth from 2000 on one more, but not 2100
 abbrev pub years_to : ℕ → ℕ
-years_to n = cond (ltb 100 n) (n * 365 + (n + 3) / 4 - 1) (n * 365 + (n + 3) / 4)
+years_to n = n * 365 + (n + 3) / 4 - bool_byte (ltb 100 n)
 
 abbrev is-year : ℕ → Bool
 is-year n = eqb (years_to (n + 1)) (years_to n + year_length (2000 + n))
@@ -73,22 +99,21 @@ years : every is-year 102 ≡ true
 unfolding year_length
 years = refl
 
-pub years-sum : (n : ℕ) → n ≤ 102 → total length_after (12 * n) ≡ years_to n
+pub years_sum : (n : ℕ) → n ≤ 102 → total length_after (12 * n) ≡ years_to n
 unfolding total
-years-sum zero h = refl
-years-sum (suc n) h = rw (← add-one n) (year-sum n ∙ omega (arith, years-sum n (omega arith), eqb-true (years_to (n + 1)) (years_to n + year_length (2000 + n)) (every-at is-year 102 years n h)))
+years_sum zero h = refl
+years_sum (suc n) h = rw (← add-one n) (year-sum n ∙ omega (arith, years_sum n (omega arith), eqb-true (years_to (n + 1)) (years_to n + year_length (2000 + n)) (every-at is-year 102 years n h)))
 
 -- ---- the date of a day of a year
 
--- the day lies in month m where it lies between the first of m and of m + 1
-pub in-year : (y left m : ℕ) → m ≤ 12 → days_before (leap_year y) m ≤ left → left < days_before (leap_year y) (m + 1) → InYear y left (date y m (left - days_before (leap_year y) m + 1))
+pub in_year : (y left m : ℕ) → InMonth (leap_year y) left m → InYear y left (date y m (left - days_before (leap_year y) m + 1))
 unfolding date_exists month_length
-in-year y left m h l u =
+in_year y left m h =
     let b = before-next (leap_year y) m in
     record {
       year = refl;
       real = simp (le-leb 1 (left - days_before (leap_year y) m + 1) (omega arith), le-leb (left - days_before (leap_year y) m + 1) (month_days (leap_year y) m) (omega arith));
-      month = h;
+      month = h.month;
       rest = omega arith;
     }
 
@@ -109,26 +134,24 @@ unfolding days_before total
 all_end true = refl
 all_end false = refl
 
-pub record Guess (y left : ℕ) : Type 0 where
+pub record Guess (leap : Bool) (left : ℕ) : Type 0 where
   pub month : left / 32 + 1 ≤ 12
-  pub begun : days_before (leap_year y) (left / 32 + 1) ≤ left
+  pub begun : days_before leap (left / 32 + 1) ≤ left
 
-pub guess : (y left : ℕ) → left < year_length y → Guess y left
-guess y left h =
-    let l = leap_year y in
-    let m : left / 32 < 12 = omega (arith, year-range y) in
-    record { month = omega arith; begun = omega (arith, leb-true (days_before l (left / 32 + 1)) (32 * (left / 32)) (every-at (begins l) 12 (all-begin l) (left / 32) m)) }
+pub guess : (leap : Bool) (left : ℕ) → left < days_before leap 13 → Guess leap left
+guess leap left h =
+    let m : left / 32 < 12 = omega (arith, year-days leap) in
+    record { month = omega arith; begun = omega (arith, leb-true (days_before leap (left / 32 + 1)) (32 * (left / 32)) (every-at (begins leap) 12 (all-begin leap) (left / 32) m)) }
 
-pub guess-next : (leap : Bool) (left : ℕ) → left / 32 + 1 < 12 → left < days_before leap (left / 32 + 1 + 1 + 1)
-guess-next leap left h =
+pub guess_next : (leap : Bool) (left : ℕ) → left / 32 + 1 < 12 → left < days_before leap (left / 32 + 1 + 1 + 1)
+guess_next leap left h =
     omega (arith, leb-true (32 * (left / 32 + 1)) (days_before leap (left / 32 + 1 + 1 + 1)) (every-at (ends leap) 11 (all_end leap) (left / 32) (omega arith)))
 
 -- December is the last month
-pub guess-last : (y left : ℕ) → left < year_length y → 12 ≤ left / 32 + 1 → left < days_before (leap_year y) (left / 32 + 1 + 1)
-unfolding year_length
-guess-last y left h l =
-    let m : left / 32 + 1 + 1 ≡ 13 = omega (arith, guess y left h) in
-    rw (m, whole-year (leap_year y)) h
+pub guess_last : (leap : Bool) (left : ℕ) → left < days_before leap 13 → 12 ≤ left / 32 + 1 → left < days_before leap (left / 32 + 1 + 1)
+guess_last leap left h l =
+    let m : left / 32 + 1 + 1 ≡ 13 = omega (arith, guess leap left h) in
+    rw m h
 
 -- ---- a year and the days since its 1 January
 
@@ -161,9 +184,32 @@ place-below d r =
     omega (arith, whole-year (leap_year d.year), before-mono (leap_year d.year) (d.month + 1) 13 (omega arith), r.day-high)
 
 -- the date of a day of a year is that day
-pub date-is : (o d : Date) (k y left : ℕ) → RealTo 2099 o → 2000 ≤ y → day_in y left ≡ days_after o + k → InYear y left d → d ≡ date_on o k
-date-is o d k y left r h e i =
+pub date_is : (o d : Date) (k y left : ℕ) → opens o ≡ true → k ≤ 399 → 2000 ≤ y → day_in y left ≡ days_after o + k → InYear y left d → Some d ≡ date_answer o k
+date_is o d k y left t h since e i =
     let b = real d (omega (arith, i.year)) i.real in
-    let k-day = day-real o r.real k in
+    let k-day = day-real o (opens-real o t).real k in
     let p : days_after d ≡ day_in y left = rw (← i.year) (omega (arith, place-of d b, rw (← i.year) at i.rest)) in
-    same-day d (date_on o k) b k-day.real (omega arith)
+    simp (t, le-leb k 399 h) (ap Some (same-day d (date_on o k) b k-day.real (omega arith)))
+
+-- what a date that can open an account tells
+pub record Opened (o : Date) : Type 0 where
+  pub since : 2000 ≤ o.year
+  pub until : o.year ≤ 2099
+  pub month-low : 1 ≤ o.month
+  pub month-high : o.month ≤ 12
+  pub day-low : 1 ≤ o.day
+  pub below : days_before (leap_year o.year) o.month + (o.day - 1) < 366
+  pub same : day_in o.year (days_before (leap_year o.year) o.month + (o.day - 1)) ≡ days_after o
+
+pub opened : (o : Date) → opens o ≡ true → Opened o
+opened o e =
+    let r = opens-real o e in
+    record {
+      since = r.real.since;
+      until = r.until;
+      month-low = r.real.month-low;
+      month-high = r.real.month-high;
+      day-low = r.real.day-low;
+      below = omega (arith, place-below o r.real, year_range o.year);
+      same = sym (place-of o r.real);
+    }

@@ -1,5 +1,5 @@
 -- What the calendar's private functions answer. No promise to others cites these.
-use Rattle.std.specs.Prelude.{ℕ, ◌+◌, ◌-◌, ◌≤◌, min, ◌≡◌, Bool, true, cond}
+use Rattle.std.specs.Prelude.{ℕ, ◌+◌, ◌-◌, ◌≤◌, ◌<◌, min, ◌≡◌, Bool, true, cond}
 use Rattle.calendar.specs.Calendar.{leap_year, month_days, date_exists, total, length_after, months_after, days_after, day_count}
 use Rattle.calendar.specs.declared.Date.{Date}
 
@@ -9,6 +9,12 @@ days_before leap m = total (month_days leap) m
 
 unfoldable pub year_length : ℕ → ℕ
 year_length y = cond (leap_year y) 366 365
+
+-- the day that comes `left` days after 1 January lies in month m
+pub record InMonth (leap : Bool) (left m : ℕ) : Type 0 where
+  pub month : m ≤ 12
+  pub begun : days_before leap m ≤ left
+  pub next : left < days_before leap (m + 1)
 
 -- r is the date that comes `left` days after 1 January of the year
 pub record InYear (y left : ℕ) (r : Date) : Type 0 where

@@ -7,7 +7,7 @@ ghost use Rattle.calendar.specs.Calendar.{leap_year, month_length, date_exists, 
 ghost use Rattle.calendar.specs.Calendar.{total, length_after, months_after, days_after, month_from};
 ghost use Rattle.calendar.specs.Calendar.{saturday, weekday_number, weekday_or_none, weekday_after};
 ghost use Rattle.calendar.specs.Calendar.{next_answer, weekday_answer, month_count, date_answer, weekday_on, month_answer, DayAnswer, MonthAnswer};
-ghost use Rattle.calendar.specs.Work.{days_before, year_length, InYear, month_start};
+ghost use Rattle.calendar.specs.Work.{days_before, year_length, InMonth, InYear, month_start};
 
 use std::ops::Range;
 
@@ -74,6 +74,7 @@ fn leap(year: u32) -> bool
 }
 
 // Any other number is no month, and has no days.
+#[tactic(auto, unfolding(crate::specs::Calendar::month_length))]
 fn month_length(year: u32, month: u32) -> u32
     ensures { result ≡ month_length year month }
 {
@@ -87,6 +88,7 @@ fn month_length(year: u32, month: u32) -> u32
 }
 
 // Whether year, month and day are a date.
+#[tactic(auto, unfolding(crate::specs::Calendar::date_exists))]
 pub fn exists(year: u32, month: u32, day: u32) -> bool
     ensures { result ≡ date_exists year month day }
 {
@@ -105,6 +107,7 @@ fn days_before(leap: bool, month: u32) -> u32
 }
 
 // The days from 2000-01-01 to 1 January of the year n years later: 2100 is no leap year.
+#[tactic(auto, using(crate::proofs::Years::years_sum))]
 fn years_before(n: u32) -> u32
     requires { n ≤ end_year + 1 - first_year }
     ensures { result ≡ total length_after (12 * n) }
@@ -122,6 +125,7 @@ fn month_after(i: u32) -> u32
 }
 
 // How many months after January 2000 the date's month is.
+#[tactic(auto, using(crate::proofs::Laws::reached))]
 fn months_after(d: Date) -> u32
     requires { is_in_reach d ≡ true }
     ensures { result ≡ months_after d }
@@ -129,6 +133,7 @@ fn months_after(d: Date) -> u32
     12 * (d.year - FIRST_YEAR) + (d.month - 1)
 }
 
+#[tactic(auto, using(crate::proofs::Laws::reached), unfolding(crate::specs::Calendar::days_after))]
 fn days_after(d: Date) -> u32
     requires { is_in_reach d ≡ true }
     ensures { result ≡ days_after d }
@@ -137,12 +142,14 @@ fn days_after(d: Date) -> u32
 }
 
 // Whether it is a date of the years 2000 to `last`.
+#[tactic(auto, unfolding(crate::specs::Calendar::is_date_until))]
 fn is_date_until(d: Date, last: u32) -> bool
     ensures { result ≡ is_date_until last d }
 {
     (FIRST_YEAR..=last).contains(&d.year) && exists(d.year, d.month, d.day)
 }
 
+#[tactic(auto, unfolding(crate::specs::Calendar::is_in_reach))]
 fn in_reach(d: Date) -> bool
     ensures { result ≡ is_in_reach d }
 {
@@ -150,6 +157,7 @@ fn in_reach(d: Date) -> bool
 }
 
 // Whether the date can open an account.
+#[tactic(auto, unfolding(crate::specs::Calendar::opens))]
 pub fn can_open(d: Date) -> bool
     ensures { result ≡ opens d }
 {
@@ -157,6 +165,7 @@ pub fn can_open(d: Date) -> bool
 }
 
 // The weekday n days after 2000-01-01, which was a Saturday.
+#[tactic(auto, using(crate::proofs::Laws::weekdays))]
 fn weekday_after(n: u32) -> Weekday
     ensures { weekday_number result ≡ weekday_after n }
 {
@@ -173,6 +182,7 @@ fn weekday_after(n: u32) -> Weekday
 
 impl Date {
     // The day after.
+    #[tactic(auto, using(crate::proofs::Laws::reached), unfolding(crate::specs::Calendar::next_of))]
     pub fn next(self) -> Date
         ensures { result ≡ next_answer self }
     {
@@ -200,6 +210,7 @@ impl Date {
     }
 
     // None of a record that is no date from 2000 to 2101.
+    #[tactic(auto, unfolding(crate::specs::Calendar::weekday_of))]
     pub fn weekday(self) -> Option<Weekday>
         ensures { weekday_or_none result ≡ weekday_answer self }
     {
@@ -210,6 +221,7 @@ impl Date {
     }
 
     // The number of the date's month, counted from that of the opening date.
+    #[tactic(auto, unfolding(crate::specs::Calendar::month_from))]
     pub fn month_from(self, opened: Date) -> u64
         ensures { result ≡ month_from opened self }
     {
@@ -218,22 +230,35 @@ impl Date {
     }
 }
 
+#[tactic(auto, unfolding(crate::specs::Work::year_length))]
 fn year_length(year: u32) -> u32
     ensures { result ≡ year_length year }
 {
     if leap(year) { 366 } else { 365 }
 }
 
+// The month in which a day of a year lies: month `left / 32 + 1` or the one after.
+#[tactic(auto, using(crate::proofs::Years::guess, crate::proofs::Years::guess_next, crate::proofs::Years::guess_last))]
+fn month_in(leap: bool, left: u32) -> u32
+    requires { left < days_before leap 13 }
+    ensures { InMonth leap left result }
+{
+    let m = left / 32 + 1;
+    if m < 12 && days_before(leap, m + 1) <= left {
+        m + 1
+    } else {
+        m
+    }
+}
+
 // The date of a day of a year.
+#[tactic(auto, using(crate::proofs::Years::in_year, crate::proofs::Years::year_whole, crate::proofs::Years::year_range))]
 fn date_in(year: u32, left: u32) -> Date
     requires { left < year_length year }
     ensures { InYear year left result }
 {
     let l = leap(year);
-    let mut month = left / 32 + 1;
-    if month < 12 && days_before(l, month + 1) <= left {
-        month += 1;
-    }
+    let month = month_in(l, left);
     Date {
         year,
         month,
@@ -242,6 +267,7 @@ fn date_in(year: u32, left: u32) -> Date
 }
 
 // The date of day k.
+#[tactic(auto, using(crate::proofs::Years::opened, crate::proofs::Years::year_taken, crate::proofs::Years::year_range, crate::proofs::Years::date_is))]
 pub fn date_of(opened: Date, k: u32) -> Option<Date>
     ensures { result ≡ date_answer opened k }
 {
@@ -259,6 +285,7 @@ pub fn date_of(opened: Date, k: u32) -> Option<Date>
 }
 
 // The weekday of day k.
+#[tactic(auto, using(crate::proofs::Laws::answer_weekday))]
 pub fn weekday_of(opened: Date, k: u32) -> Option<Weekday>
     ensures { weekday_or_none result ≡ weekday_on opened k }
 {
@@ -266,6 +293,7 @@ pub fn weekday_of(opened: Date, k: u32) -> Option<Weekday>
 }
 
 // The number of day k's month, 0 for the opening month to 14.
+#[tactic(auto, using(crate::proofs::Laws::answer_month))]
 pub fn month_of(opened: Date, k: u32) -> Option<u32>
     ensures { result ≡ month_answer opened k }
 {
@@ -273,6 +301,7 @@ pub fn month_of(opened: Date, k: u32) -> Option<u32>
 }
 
 // Which day a date is.
+#[tactic(auto, using(crate::proofs::Laws::opens_reached))]
 pub fn day_of(opened: Date, d: Date) -> Option<u32>
     ensures { DayAnswer opened d result }
 {
@@ -284,6 +313,7 @@ pub fn day_of(opened: Date, d: Date) -> Option<u32>
 }
 
 // The first of days 0 to 399 that lies in month m or later, or 400.
+#[tactic(auto, using(crate::proofs::Laws::opens_reached, crate::proofs::Laws::reached), unfolding(crate::specs::Work::month_start))]
 fn month_start(opened: Date, m: u32) -> u32
     requires { (opens opened ≡ true) × (m ≤ month_count) }
     ensures { result ≡ month_start opened m }

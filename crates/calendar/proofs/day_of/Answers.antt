@@ -1,44 +1,41 @@
 use mathlib.Core.Path.{◌≡◌, ◌∙◌, sym, ap}
-use mathlib.Core.Bool.{true, false≢true}
-use Prim.Native.Nat.{ℕ, ◌+◌, ◌-◌}
-use borrow.Author.Tests.{not-true, not-false, le-leb}
+use mathlib.Core.Bool.{true}
+use Prim.Native.Nat.{ℕ, ◌+◌}
+use lib.Dec.{leb}
+use borrow.Author.Tests.{leb-true, leb-false}
 use native.Mathlib.Omega.{arith}
-use Rattle.calendar.specs.Calendar.{is_in_reach, is_day, date_on, days_after}
+use Rattle.core.specs.Bool.{then_some}
+use Rattle.calendar.specs.Calendar.{is_in_reach, opens, is_day, date_on, days_after, DayAnswer}
 use Rattle.calendar.specs.declared.Date.{Date}
-use Rattle.calendar.proofs.Laws.{opens-real, opens-reached, reached-real, day-limits, day-reached, day-real, same-day}
+use Rattle.calendar.proofs.Sums.{decide}
+use Rattle.calendar.proofs.Laws.{opens-real, reached-real, day-limits, day-reached, day-real, same-day}
 use Rattle.calendar.proofs.day_of.Goals as goal
+use Rattle.calendar.proofs.day_of.Goals.{then-not-can_open-via-then-not-can_open, then-not-can_open-via-else-not-can_open+then-not-in_reach}
 
 -- where the date is day k, k is the difference of their days
-difference : (o d : Date) (first at k : ℕ) → first ≡ days_after o → at ≡ days_after d → is_day o k ≡ true → date_on o k ≡ d → at ≡ first + k
-difference o d first at k ef ea e ed =
-    let l = day-real o (day-limits o k e).opened.real k in
-    omega (arith, ea, ef, l.later, ap days_after ed)
+difference : (o d : Date) (k : ℕ) → is_day o k ≡ true → date_on o k ≡ d → days_after d ≡ days_after o + k
+difference o d k e ed = let l = day-real o (day-limits o k e).opened.real k in sym (ap days_after ed) ∙ l.later
+
+-- and the difference is the day, where it is one of the account's
+answered : (o d : Date) (k : ℕ) → opens o ≡ true → is_in_reach d ≡ true → days_after d ≡ days_after o + k → DayAnswer o d (then_some (leb k 399) k)
+answered o d k t r e =
+    let day = day-real o (opens-real o t).real k in
+    decide (leb k 399)
+    (λ h. simp h (simp (t, h), same-day (date_on o k) d day.real (reached-real d r).real (day.later ∙ sym e)))
+    (λ f. simp f (λ j i s. omega (arith, leb-false k 399 f, difference o d j i s, (day-limits o j i).limit)))
 
 pub returns-then-not-can_open : goal.returns-then-not-can_open
-returns-then-not-can_open c = λ k e _. false≢true (sym (not-true _ c.if-not-can_open.true-raw) ∙ (c.can_open.ensures ∙ (day-limits _ k e).open_is))
+returns-then-not-can_open c = λ k e d.
+    let l = day-limits _ k e in
+    let r = day-reached _ k e in
+    let s = ap is_in_reach d in
+    elim c.then-not-can_open.branch [
+      | then-not-can_open-via-then-not-can_open w ↦ cc
+      | then-not-can_open-via-else-not-can_open+then-not-in_reach w ↦ cc
+    ]
 
-pub returns-then-not-in_reach : goal.returns-then-not-in_reach
-returns-then-not-in_reach c = λ k e d. false≢true (sym (not-true _ c.if-not-in_reach.true-raw) ∙ (c.in_reach.ensures ∙ (ap is_in_reach (sym d) ∙ day-reached _ k e)))
-
-pub days_after-first-requires : goal.days_after-first-requires
-days_after-first-requires c = opens-reached _ (sym c.can_open.ensures ∙ not-false _ c.if-not-can_open.false-raw)
-
-pub days_after-at-requires : goal.days_after-at-requires
-days_after-at-requires c = (sym c.in_reach.ensures ∙ not-false _ c.if-not-in_reach.false-raw)
-
-pub returns-then-at-first : goal.returns-then-at-first
-returns-then-at-first c = λ k e d. let s = difference _ _ _ _ k c.days_after-first.ensures c.days_after-at.ensures e d in omega arith
-
-pub returns-then-at-first-gt-FINAL_DAY : goal.returns-then-at-first-gt-FINAL_DAY
-returns-then-at-first-gt-FINAL_DAY c = λ k e d. let s = difference _ _ _ _ k c.days_after-first.ensures c.days_after-at.ensures e d in omega (arith, (day-limits _ k e).limit)
+pub returns-in_err-k : goal.returns-in_err-k
+returns-in_err-k c = rw c.from_residual.ensures (λ k e d. let s = difference _ _ k e d in omega (arith, c.in_err-k.ensures))
 
 pub returns : goal.returns
-returns c =
-    let o = c.args.opened in
-    let d = c.args.d in
-    let k = c.days_after-at.result - c.days_after-first.result in
-    let t = (sym c.can_open.ensures ∙ not-false _ c.if-not-can_open.false-raw) in
-    let day = day-real o (opens-real o t).real k in (
-      simp (t, le-leb k 399 c.if-at-first-gt-FINAL_DAY.false),
-      same-day (date_on o k) d day.real (reached-real d (sym c.in_reach.ensures ∙ not-false _ c.if-not-in_reach.false-raw)).real (day.later ∙ omega (arith, c.days_after-at.ensures, c.days_after-first.ensures)),
-    )
+returns c = rw c.then_some.ensures (answered _ _ _ (sym c.can_open.ensures ∙ c.if-not-can_open.false) (sym c.in_reach.ensures ∙ c.if-not-in_reach.false) (omega (arith, c.in_ok-k.ensures)))

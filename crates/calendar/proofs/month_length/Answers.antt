@@ -1,17 +1,9 @@
-use mathlib.Core.Path.{sym, ◌∙◌, ap}
-use mathlib.Core.Bool.{Bool}
-use Rattle.calendar.specs.Calendar.{leap_year, month_days, month_length}
-use Rattle.calendar.proofs.Laws.{no-days}
+use mathlib.Core.Path.{◌∙◌, sym}
+use Rattle.calendar.proofs.Years.{february}
 use Rattle.calendar.proofs.month_length.Goals as goal
 
-pub returns-then-month-gt12 : goal.returns-then-month-gt12
-unfolding month_length
-returns-then-month-gt12 c = sym (no-days (leap_year c.args.year) c.args.month c.if-month-gt12.true)
+pub returns-in-2 : goal.returns-in-2
+returns-in-2 c = sym (february _ _ c.in-2.is ∙ simp (sym c.leap.ensures ∙ c.if-leap.true))
 
-pub returns-then-leap : goal.returns-then-leap
-unfolding month_length
-returns-then-leap c = ap (λ (l : Bool). month_days l c.args.month) (sym c.if-leap.true ∙ c.leap.ensures)
-
-pub returns-else-leap : goal.returns-else-leap
-unfolding month_length
-returns-else-leap c = ap (λ (l : Bool). month_days l c.args.month) (sym c.if-leap.false ∙ c.leap.ensures)
+pub returns-in-2-2 : goal.returns-in-2-2
+returns-in-2-2 c = sym (february _ _ c.in-2.is ∙ simp (sym c.leap.ensures ∙ c.if-leap.false))
