@@ -3,12 +3,12 @@ use Rattle.std.specs.Prelude.{ℕ, ◌≡◌, cond, List, ◌++◌, length, drop
 use Rattle.ledger.specs.declared.Event.{Event}
 use Rattle.ledger.specs.declared.Answer.{Answer}
 use Rattle.ledger.specs.Calls.{single, row, answered, written}
-use Rattle.account.specs.Step.{step_of}
+use Rattle.account.specs.Step.{Stepped, step_of}
 use Rattle.account.specs.declared.Account.{Account}
-use Rattle.account.specs.declared.Posted.{Posted}
 use Rattle.refinement.specs.Lists.{account_after, codes_of, IsCalled}
 
-abbrev pub answer_of : Posted → Answer
+-- the answer to an event
+abbrev pub answer_of : Stepped → Answer
 answer_of p = record { code = p.code; value = p.value }
 
 -- `post` of event e to account a: it leaves account b and answers r.
