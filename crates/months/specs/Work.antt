@@ -2,9 +2,12 @@
 use Rattle.std.specs.Prelude.{ℕ, Bool, true, false, ◌&&◌, List, ltb, leb}
 use Rattle.core.specs.declared.iter.ranges.Range.{Range}
 use Rattle.ledger.specs.declared.Used.{Used}
+use Rattle.ledger.specs.Entries.{estimate_cost_of}
+use Rattle.ledger.specs.Months.{metered_wh_of, metered_cost_of, estimated_wh_of}
+use Rattle.moves.specs.declared.Usage.{Usage}
 use Rattle.moves.specs.declared.Day.{Day}
 use Rattle.moves.specs.declared.Payment.{Payment}
-use Rattle.months.specs.Summary.{payment_kept, payment_reversed, metered_by, estimated_by}
+use Rattle.months.specs.Summary.{payment_kept, payment_reversed, state_of, metered_by, estimated_by}
 
 -- the largest number that a field of a payment or a usage day can have, of any record: each is a u32
 abbrev pub max_field : ℕ
@@ -19,7 +22,12 @@ abbrev pub is_kept_as : Bool → Payment → Bool
 is_kept_as true = payment_reversed
 is_kept_as false = payment_kept
 
--- the metered usage, or the estimated
+-- a day's metered usage, or its estimated
+abbrev pub used_on : Bool → Usage → Used
+used_on true u = record { wh = metered_wh_of (state_of u); cost = metered_cost_of (state_of u) }
+used_on false u = record { wh = estimated_wh_of (state_of u); cost = estimate_cost_of (state_of u) }
+
+-- that of the days
 abbrev pub used_by : (ℕ → Bool) → Bool → List Day → ℕ → Used
 used_by q true = metered_by q
 used_by q false = estimated_by q

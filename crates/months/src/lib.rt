@@ -8,11 +8,11 @@ ghost use Rattle.ledger.specs.Rules.{max_payments};
 ghost use Rattle.ledger.specs.Months.{average_of};
 ghost use Rattle.ledger.specs.Refusals.{average_or_0, is_missing, summary_of};
 ghost use Rattle.months.specs.Summary.{counted_by, charges_of, IsSummary};
-ghost use Rattle.months.specs.Work.{max_field, span, is_kept_as, used_by, max_averaged};
+ghost use Rattle.months.specs.Work.{max_field, span, is_kept_as, used_on, used_by, max_averaged};
 
 use account::{Account, UsageDays};
 use ledger::{CHARGE_KIND_COUNT, Counted, Figures, KindSums, Refusal, Used};
-use moves::{Charges, Payment, Usage};
+use moves::{Charges, Day, Payment, Usage};
 use std::ops::Range;
 
 // No list of charges takes a sum past this: a record that has one, of kind 1 or 2, is no account of this software's.
@@ -27,10 +27,28 @@ fn paid_in(payments: &[Payment], days: &Range<u32>, reversed: bool) -> Counted
     for p in payments {
         if p.reversed == reversed && days.contains(&p.day) {
             paid.count += 1;
-            paid.sum += u64::from(p.amount);
+            paid.sum += p.amount as u64;
         }
     }
     paid
+}
+
+// What a day adds to the metered usage, or to the estimated.
+fn used_on(d: Day, metered: bool) -> Used
+    ensures value { result ≡ used_on metered d.usage }
+    ensures bound { (result.wh ≤ max_field) × (result.cost ≤ max_field) }
+{
+    match d.usage {
+        Usage::Estimated { wh, cost } if !metered => Used {
+            wh: wh as u64,
+            cost: cost as u64,
+        },
+        Usage::Metered { wh, cost } if metered => Used {
+            wh: wh as u64,
+            cost: cost as u64,
+        },
+        _ => Used::default(),
+    }
 }
 
 // The metered usage of those days, or the estimated.
@@ -41,17 +59,9 @@ fn used_in(usage: &UsageDays, days: &Range<u32>, metered: bool) -> Used
 {
     let mut used = Used::default();
     for d in &usage[days.start as usize..days.end as usize] {
-        match d.usage {
-            Usage::Estimated { wh, cost } if !metered => {
-                used.wh += u64::from(wh);
-                used.cost += u64::from(cost);
-            }
-            Usage::Metered { wh, cost } if metered => {
-                used.wh += u64::from(wh);
-                used.cost += u64::from(cost);
-            }
-            _ => {}
-        }
+        let day = used_on(*d, metered);
+        used.wh += day.wh;
+        used.cost += day.cost;
     }
     used
 }

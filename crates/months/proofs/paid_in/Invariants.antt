@@ -1,12 +1,10 @@
--- `months::paid_in` meets its contract. The loop's invariant: what the payments passed come to.
--- Assumes nothing.
-use Prim.Native.Nat.{◌≤◌, ◌-◌}
+-- What the payments passed come to.
+use Prim.Native.Nat.{◌≤◌, ◌*◌}
 use mathlib.Core.Path.{◌≡◌}
-use Rattle.months.specs.Work.{span, paid_by, PaidTo}
+use Rattle.months.specs.Summary.{counted_by}
+use Rattle.months.specs.Work.{max_field, span, is_kept_as}
 use Rattle.months.proofs.paid_in.Given as goal
 
-abbrev pub invariant-loop-n : goal.invariant-loop-n
-invariant-loop-n l = (l.n ≤ l.count) × (l.s ≡ paid_by (span l.from l.to) l.payments l.n) × PaidTo l.n l.s
-
-abbrev pub decreases-loop-n : goal.decreases-loop-n
-decreases-loop-n l = l.count - l.n
+abbrev pub invariant-loop-p : goal.invariant-loop-p
+invariant-loop-p l =
+    (l.paid ≡ counted_by (span l.days) (is_kept_as l.reversed) l.payments l.p-index) × (l.paid.count ≤ l.p-index) × (l.paid.sum ≤ l.p-index * max_field)

@@ -1,12 +1,9 @@
--- `months::used_in` meets its contract. The loop's invariant: what the days passed come to; those before `from` come to nothing.
--- Assumes nothing.
-use Prim.Native.Nat.{◌≤◌, ◌-◌}
+-- What the days passed come to; those before the range come to nothing.
+use Prim.Native.Nat.{◌+◌, ◌≤◌, ◌*◌}
 use mathlib.Core.Path.{◌≡◌}
-use Rattle.months.specs.Work.{span, used_by, UsedTo}
+use Rattle.months.specs.Work.{max_field, span, used_by}
 use Rattle.months.proofs.used_in.Given as goal
 
 abbrev pub invariant-loop-d : goal.invariant-loop-d
-invariant-loop-d l = (l.from ≤ l.d) × (l.d ≤ l.to) × (l.s ≡ used_by (span l.from l.to) l.days l.d) × UsedTo l.d l.s
-
-abbrev pub decreases-loop-d : goal.decreases-loop-d
-decreases-loop-d l = l.to - l.d
+invariant-loop-d l =
+    (l.used ≡ used_by (span l.days) l.metered l.usage (l.days.start + l.d-index)) × (l.used.wh ≤ l.d-index * max_field) × (l.used.cost ≤ l.d-index * max_field)
