@@ -2,46 +2,53 @@
 use mathlib.Core.Path.{◌≡◌, refl, sym, ◌∙◌, ap}
 use mathlib.Core.Bool.{cond, not, ◌&&◌, ◌||◌, or-false}
 use mathlib.Core.List.{List}
-use Prim.Native.Nat.{ℕ, zero, suc, ◌+◌, ◌-◌, ◌≤◌}
+use Prim.Native.Nat.{ℕ, zero, suc, ◌+◌, ◌-◌, ◌≤◌, ◌<◌}
 use native.Mathlib.Numerals.{sub-one}
 use native.Mathlib.Omega.{arith}
 use lib.ListN.{get_or, set}
 use lib.Dec.{ltb, eqb, eqb-suc-zero}
 use lib.Bits.{bit_and, bit_or}
 use Rattle.marks.specs.Marks.{mark_range, latest_of, near_of, day_before, business_left}
-use Rattle.marks.specs.declared.Found.TheVariants.{At, Missing}
+use Rattle.std.specs.Prelude.{Some, None}
 
 abbrev or_at : List ℕ → ℕ → ℕ → List ℕ
 or_at m bit d = set m d (bit_or (get_or m d 0) bit)
 
-pub mark-none : (l : List ℕ) (bit from : ℕ) → l ≡ mark_range l bit from (from - from)
+pub mark_none : (l : List ℕ) (bit from : ℕ) → l ≡ mark_range l bit from (from - from)
 unfolding mark_range
-mark-none l bit from = let e : from - from ≡ 0 = omega arith in rw e
+mark_none l bit from = let e : from - from ≡ 0 = omega arith in rw e
 
-pub mark-turn : (l : List ℕ) (bit from d : ℕ) → from ≤ d → mark_range l bit from (d + 1 - from) ≡ or_at (mark_range l bit from (d - from)) bit d
+pub mark_turn : (l : List ℕ) (bit from d : ℕ) → from ≤ d → mark_range l bit from (d + 1 - from) ≡ or_at (mark_range l bit from (d - from)) bit d
 unfolding mark_range
-mark-turn l bit from d h =
+mark_turn l bit from d h =
     let e : d + 1 - from ≡ suc (d - from) = omega arith in
     let at : from + (d - from) ≡ d = omega arith in
     ap (mark_range l bit from) e ∙ ap (or_at (mark_range l bit from (d - from)) bit) at
 
-pub latest-over : (l : List ℕ) (d n : ℕ) → n ≡ 0 → latest_of l d n ≡ Missing
+-- day d - 1 is the next of the days down to `first`
+pub latest_end : (l : List ℕ) (d : ℕ) → latest_of l d (d - d) ≡ None
 unfolding latest_of
-latest-over l zero n e = rw e
-latest-over l (suc d) n e = rw e
+latest_end l zero = refl
+latest_end l (suc d) = let z : suc d - suc d ≡ 0 = omega arith in rw z
 
-pub latest-first : (l : List ℕ) (d n : ℕ) → d ≡ 0 → latest_of l d n ≡ Missing
+pub latest_turn : (l : List ℕ) (d first : ℕ) → first < d → latest_of l d (d - first) ≡ cond (eqb (get_or l (d - 1) 0) 1) (Some (d - 1)) (latest_of l (d - 1) (d - 1 - first))
 unfolding latest_of
-latest-first l d zero e = rw e
-latest-first l d (suc n) e = rw e
+latest_turn l zero first h = absurd (omega arith)
+latest_turn l (suc d) first h =
+    let e : suc d - first ≡ suc (d - first) = omega arith in
+    rw e (simp sub-one)
 
-pub latest-turn : (l : List ℕ) (d n : ℕ) → (d ≡ 0 → ⊥) → (n ≡ 0 → ⊥) → latest_of l d n ≡ cond (eqb (get_or l (d - 1) 0) 1) (At (d - 1)) (latest_of l (d - 1) (n - 1))
+-- n days back from day d, or back to day 0
+pub latest_back : (l : List ℕ) (d n : ℕ) → latest_of l d n ≡ latest_of l d (d - (d - n))
 unfolding latest_of
-latest-turn l zero n d≢0 n≢0 = absurd (d≢0 refl)
-latest-turn l (suc d) zero d≢0 n≢0 = absurd (n≢0 refl)
-latest-turn l (suc d) (suc n) d≢0 n≢0 = simp sub-one
+latest_back l zero zero = refl
+latest_back l zero (suc n) = let e : 0 - (0 - suc n) ≡ 0 = omega arith in rw e
+latest_back l (suc d) zero = let e : suc d - (suc d - 0) ≡ 0 = omega arith in rw e
+latest_back l (suc d) (suc n) =
+    let e : suc d - (suc d - suc n) ≡ suc (d - (d - n)) = omega arith in
+    rw e (ap (cond (eqb (get_or l d 0) 1) (Some d)) (latest_back l d n))
 
-pub near-turn : (l : List ℕ) (w d left : ℕ) → near_of l w d left ≡ (not (eqb (bit_and (get_or l d 0) 1) 0) || (not (eqb d 0) && (not (ltb w 5 && eqb left 0) && near_of l (day_before w) (d - 1) (business_left w left))))
+pub near_turn : (l : List ℕ) (w d left : ℕ) → near_of l w d left ≡ (not (eqb (bit_and (get_or l d 0) 1) 0) || (not (eqb d 0) && (not (ltb w 5 && eqb left 0) && near_of l (day_before w) (d - 1) (business_left w left))))
 unfolding near_of
-near-turn l w zero left = sym (or-false _)
-near-turn l w (suc d) left = simp (sub-one, eqb-suc-zero)
+near_turn l w zero left = sym (or-false _)
+near_turn l w (suc d) left = simp (sub-one, eqb-suc-zero)

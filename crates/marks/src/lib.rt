@@ -23,6 +23,7 @@ fn mark_bit(kind: u32) -> u8
 }
 
 // Sets the kind's mark from day `from` to day `to`.
+#[tactic(auto, using(crate::proofs::Turns::mark_turn, crate::proofs::Turns::mark_none), unfolding(crate::specs::Marks::marked))]
 pub fn set(marks: &mut DayBytes, kind: u32, from: u32, to: u32)
     ensures { marks.new ≡ marked marks.old kind from to }
 {
@@ -36,6 +37,7 @@ pub fn set(marks: &mut DayBytes, kind: u32, from: u32, to: u32)
 }
 
 // Whether a mark bars a disconnect on the day.
+#[tactic(auto, unfolding(crate::specs::Marks::barring_on))]
 pub fn barring(marks: &DayBytes, day: u32) -> bool
     ensures { result ≡ barring_on marks.now day }
 {
@@ -43,6 +45,7 @@ pub fn barring(marks: &DayBytes, day: u32) -> bool
 }
 
 // The newest warning of the seven days before the day.
+#[tactic(auto, using(crate::proofs::Turns::latest_end, crate::proofs::Turns::latest_turn, crate::proofs::Turns::latest_back), unfolding(crate::specs::Marks::latest_warning))]
 pub fn latest(warned: &DayBytes, day: u32) -> Option<u32>
     ensures { result ≡ latest_warning warned.now day }
 {
@@ -70,6 +73,7 @@ fn day_before(weekday: u32) -> u32
 }
 
 // Whether a weather day lies so near before or on the day that at most one business day has come since.
+#[tactic(auto, using(crate::proofs::Turns::near_turn), unfolding(crate::specs::Marks::weather_near))]
 pub fn weather_near(marks: &DayBytes, weekday: u32, day: u32) -> bool
     ensures { result ≡ weather_near marks.now weekday day }
 {
