@@ -63,6 +63,7 @@ fn check_plan(kind: u32) -> Result<(), Refusal>
 }
 
 // A refusal by 3 where the sort, or a field that it names, is outside its limits.
+#[tactic(auto, unfolding(ledger::specs::Event::in_limits))]
 pub fn check(e: Event) -> Result<(), Refusal>
     ensures { code_of result ≡ cond (in_limits e) 0 3 }
 {
