@@ -48,7 +48,7 @@ impl Account {
     }
 
     // One event: the cells that it may change are read, moved and written back. A refusal writes none of them.
-    #[tactic(auto, unfolding(crate::specs::Step::step_of))]
+    #[tactic(auto, unfolding(crate::specs::Step::step_of, marks::specs::Marks::marked, marks::specs::Marks::mark_range))]
     pub fn post(&mut self, e: Event) -> Result<u64, Refusal>
         ensures { stepped_of self.new result ≡ step_of self.old e }
     {
@@ -77,6 +77,7 @@ impl Account {
 }
 
 // A fresh account of these terms, or the refusal of terms outside their limits.
+#[tactic(auto, unfolding(terms::specs::Terms::terms_code))]
 pub fn open(t: Terms) -> Result<Account, Refusal>
     ensures { IsOpened t result }
 {

@@ -6,9 +6,10 @@ use Prim.Native.Nat.{ℕ, suc, ◌≤◌, ◌<◌}
 use native.Mathlib.Omega.{arith}
 use lib.Dec.{leb, eqb}
 use borrow.Author.Tests.{eqb-true, leb-true, leb-false, ltb-false, le-leb}
-use Rattle.calendar.specs.Calendar.{opens, is_day, month_on}
+use Rattle.std.specs.Prelude.{Some}
+use Rattle.calendar.specs.Calendar.{opens, is_day, date_on, days_after, weekday_of, month_on, month_answer, weekday_on}
 use Rattle.calendar.proofs.Sums.{and_left, and_right, leb-and}
-use Rattle.calendar.proofs.Laws.{month-limit}
+use Rattle.calendar.proofs.Laws.{month-limit, weekday-after}
 use Rattle.tariff.specs.Tariff.{cost_of}
 use Rattle.terms.specs.Terms.{valid_terms, terms_code, within}
 use Rattle.terms.specs.declared.Terms.{Terms}
@@ -114,6 +115,15 @@ is-day t s e k = simp (k.opened, le-leb e.day 399 k.day)
 
 pub month-on : (t : Terms) (s : Totals) (e : Event) → Early t s e → month_on t.opened e.day ≤ 14
 month-on t s e k = let h = is-day t s e k in rw h (month-limit t.opened e.day h)
+
+-- what the calendar answers of that day
+pub month_is : (t : Terms) (s : Totals) (e : Event) → early_code t s e ≡ 0 → month_answer t.opened e.day ≡ Some (month_on t.opened e.day)
+month_is t s e h = simp (is-day t s e (early t s e h))
+
+pub weekday_is : (t : Terms) (s : Totals) (e : Event) → early_code t s e ≡ 0 → weekday_on t.opened e.day ≤ 6
+unfolding weekday_of
+weekday_is t s e h =
+    simp (is-day t s e (early t s e h)) (let w = weekday-after (days_after (date_on t.opened e.day)) in omega (arith, w))
 
 -- ---- the event's fields, by its sort
 

@@ -13,9 +13,7 @@ pub(crate) fn charge(checked: Checked, charges: &Charges) -> Result<Move, Refusa
 {
     let before = checked.before;
     let e = checked.event;
-    let opened = checked.terms.opened;
-    let month = calendar::month_of(opened, e.day);
-    let place = CHARGE_KIND_COUNT * month + (e.kind - 1);
+    let place = CHARGE_KIND_COUNT * checked.month() + (e.kind - 1);
     let sum = charges[place as usize];
     if sum > MAX_TOTAL {
         return Err(Refusal::Terms);

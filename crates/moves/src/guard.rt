@@ -1,10 +1,11 @@
 // The checks that every event passes first: that the record is an account, then codes 2, 3 and 4.
 ghost use Rattle.std.specs.Prelude.{◌≡◌, IfOk};
+ghost use Rattle.calendar.specs.Calendar.{weekday_number, month_on, weekday_on};
 ghost use Rattle.ledger.specs.Refusals.{code_of};
 ghost use Rattle.moves.specs.Moves.{early_code};
 
 use super::{Move, Totals, is_account};
-use calendar::FINAL_DAY;
+use calendar::{FINAL_DAY, Weekday};
 use ledger::{Event, MAX_EVENTS, Refusal};
 use terms::Terms;
 
@@ -46,5 +47,23 @@ impl Checked {
             before,
             event,
         })
+    }
+
+    // The weekday of the event's day.
+    #[tactic(auto, using(crate::proofs::Early::weekday_is))]
+    pub(crate) fn weekday(self) -> Weekday
+        ensures { weekday_number result ≡ weekday_on self.terms.opened self.event.day }
+    {
+        let opened = self.terms.opened;
+        calendar::weekday_of(opened, self.event.day).unwrap()
+    }
+
+    // The month of the event's day.
+    #[tactic(auto, using(crate::proofs::Early::month_is))]
+    pub(crate) fn month(self) -> u32
+        ensures { result ≡ month_on self.terms.opened self.event.day }
+    {
+        let opened = self.terms.opened;
+        calendar::month_of(opened, self.event.day).unwrap()
     }
 }

@@ -108,7 +108,7 @@ pub type Charges = [u64; CHARGE_PLACES];
 pub const MAX_TOTAL: u64 = 1152921504606846976;
 
 // Whether the terms are within their limits and the totals within any account's reach, so that no sum of a step wraps.
-#[tactic(auto, unfolding(crate::specs::Moves::is_account))]
+#[tactic(auto, unfolding(crate::specs::Moves::is_account, terms::specs::Terms::terms_code))]
 pub fn is_account(t: Terms, s: Totals) -> bool
     ensures { result ≡ is_account t s }
 {

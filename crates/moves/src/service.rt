@@ -1,13 +1,11 @@
 // Warnings, marks, plans, disconnects and connects.
-ghost use Rattle.std.specs.Prelude.{◌≡◌, ◌≤◌};
-ghost use Rattle.moves.specs.Moves.{max_total, accepted, moved_of, warn_of, mark_of, plan_condition_met, plan_of, served_of, disconnect_of, connect_of};
+ghost use Rattle.std.specs.Prelude.{◌≡◌};
+ghost use Rattle.moves.specs.Moves.{accepted, moved_of, warn_of, mark_of, plan_condition_met, plan_of, served_of, disconnect_of, connect_of};
 
 use super::guard::Checked;
 use super::{Mark, Move, Totals};
-use calendar::SATURDAY;
-use ledger::{Event, REQUIRED_DEBT, Refusal};
-use marks::{DayBytes, Found};
-use terms::Terms;
+use ledger::{REQUIRED_DEBT, Refusal};
+use marks::DayBytes;
 
 #[tactic(auto, using(crate::proofs::Early::early), unfolding(crate::specs::Moves::warn_of))]
 pub(crate) fn warn(checked: Checked) -> Result<Move, Refusal>
@@ -39,16 +37,17 @@ pub(crate) fn mark(checked: Checked) -> Result<Move, Refusal>
 }
 
 // Whether the plan kind's condition holds.
-fn may_defer(t: Terms, s: Totals, marks: &DayBytes, e: Event) -> bool
-    requires { s.credit ≤ max_total }
-    ensures { result ≡ plan_condition_met t s marks.now e }
+#[tactic(auto, using(crate::proofs::Early::early))]
+fn may_defer(checked: Checked, marks: &DayBytes) -> bool
+    ensures { result ≡ plan_condition_met checked.terms checked.before.totals marks.now checked.event }
 {
+    let s = checked.before.totals;
+    let e = checked.event;
     if e.kind != 1 {
         return s.credit < s.debit;
     }
-    let opened = t.opened;
     s.debit >= s.credit + REQUIRED_DEBT
-        && marks::weather_near(marks, calendar::weekday_of(opened, e.day), e.day)
+        && marks::weather_near(marks, checked.weekday().number(), e.day)
 }
 
 #[tactic(auto, using(crate::proofs::Early::early), unfolding(crate::specs::Moves::plan_of, crate::specs::Moves::deferring_of))]
@@ -59,7 +58,7 @@ pub(crate) fn plan(checked: Checked, marks: &DayBytes) -> Result<Move, Refusal>
     let before = checked.before;
     let t = checked.terms;
     let e = checked.event;
-    if !may_defer(t, before.totals, marks, e) {
+    if !may_defer(checked, marks) {
         return Err(Refusal::PlanCondition);
     }
     if before.totals.plan > 0 {
@@ -111,10 +110,10 @@ pub(crate) fn disconnect(
     if s.credit >= s.debit + t.cutoff as u64 {
         return Err(Refusal::Balance);
     }
-    let Found::At(_) = marks::latest(warned, day) else {
+    if marks::latest(warned, day).is_none() {
         return Err(Refusal::Warning);
-    };
-    if calendar::weekday_of(t.opened, day) >= SATURDAY || marks::barring(marks, day) {
+    }
+    if checked.weekday().is_weekend() || marks::barring(marks, day) {
         return Err(Refusal::Barred);
     }
     Ok(served(checked, false))
