@@ -29,15 +29,17 @@ module _ (a : Account) (es : List Event) (cs : List ℕ) where
   starts = record { upto = omega arith; size = refl; account = refl; codes = refl }
 
   -- event i is posted, and its code is written at i
-  pub goes_on : (i : ℕ) (h : Account) (ys : List ℕ) (d : Event) → i < length es → length es ≤ length cs → Fine i h ys
-      → Fine (i + 1) (step_of h (get_or es i d)).account (set ys i (step_of h (get_or es i d)).code)
+  pub goes_on : (i : ℕ) (h : Account) (ys : List ℕ) (d : Event) (b : Account) (code : ℕ) → i < length es → length es ≤ length cs → Fine i h ys
+      → b ≡ (step_of h (get_or es i d)).account → code ≡ (step_of h (get_or es i d)).code → Fine (i + 1) b (set ys i code)
   unfolding account_after codes_of
-  goes_on i h ys d less room f = record {
+  goes_on i h ys d b code less room f left wrote = record {
     upto = omega arith;
     size = simp length-set f.size;
-    account = rw (add-one i) (ap (account_after h) (sym (drop-cons es i d less)) ∙ f.account);
+    account = rw (left, add-one i) (ap (account_after h) (sym (drop-cons es i d less)) ∙ f.account);
     codes =
         rw (
+          left,
+          wrote,
           add-one i,
           take-suc-set ys i (step_of h (get_or es i d)).code (omega (arith, f.size)),
           drop-set-lt (length es) ys i (step_of h (get_or es i d)).code less,

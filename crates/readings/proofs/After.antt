@@ -2,9 +2,7 @@
 -- Assumes nothing.
 use mathlib.Core.Path.{◌≡◌, refl, sym, ap, ◌∙◌}
 use Prim.Native.Nat.{ℕ, ◌+◌}
-use native.Mathlib.Omega.{arith}
 use lib.IntN.{ℤ, pos, ◌+ℤ◌, ◌-ℤ◌}
-use borrow.Author.Tests.{le-leb}
 use Rattle.terms.specs.declared.Terms.{Terms}
 use Rattle.ledger.specs.Rules.{Ledger}
 use Rattle.ledger.specs.Ledger.{ledger_of}
@@ -13,7 +11,8 @@ use Rattle.ledger.proofs.Money.{diff, diff-add, diff-sub}
 use Rattle.ledger.proofs.Identity.{settled_is}
 use Rattle.moves.specs.declared.Totals.{Totals}
 use Rattle.account.specs.declared.Account.{Account}
-use Rattle.refinement.specs.Agree.{TotalsAgree, Bounds, Represents}
+use Rattle.refinement.specs.Agree.{TotalsAgree, Represents}
+use Rattle.refinement.proofs.Agreed.{Within, within}
 use Rattle.refinement.proofs.Lists.{made-represents}
 use Rattle.readings.specs.Readings.{balance_of, settled_of, IsReading, IsBalance, IsPlan, IsService, IsSettled, IsEstimates}
 
@@ -24,23 +23,19 @@ module _ (t : Terms) (a : Account) (l : Ledger) (q : Represents t a l) where
   abbrev g : TotalsAgree t s l
   g = q.agree.sums
 
-  abbrev b : Bounds s
-  b = q.agree.bounds
+  abbrev w : Within s
+  w = within s q.agree.bounds
 
   pub balance-reading : balance_of s ≡ l.balance
   unfolding balance_of
-  balance-reading = simp (le-leb s.credit 1152921504606846976 (omega (arith, b.credit, b.full)), le-leb s.debit 1152921504606846976 (omega (arith, b.debit, b.full))) (sym g.balance)
+  balance-reading = simp (w.credit, w.debit) (sym g.balance)
 
   pub settled-reading : settled_of s ≡ sums.settled t l.list
   unfolding settled_of
   settled-reading =
-      simp (le-leb s.credit 1152921504606846976 (omega (arith, b.credit, b.full)), le-leb s.debit 1152921504606846976 (omega (arith, b.debit, b.full)), le-leb s.plan 1152921504606846976 (omega (arith, b.plan, b.full)), le-leb s.standing 1152921504606846976 (omega (arith, b.standing, b.full)))
-      (sym (sym (settled_is t l q.invariant)
-      ∙ ap (λ (z : ℤ). z -ℤ pos l.plan +ℤ pos (sums.standing_cost t l.list)) g.balance
-      ∙ ap (λ (n : ℕ). diff s.credit s.debit -ℤ pos n +ℤ pos (sums.standing_cost t l.list)) (sym g.plan)
-      ∙ ap (λ (n : ℕ). diff s.credit s.debit -ℤ pos s.plan +ℤ pos n) (sym g.standing)
-      ∙ ap (λ (z : ℤ). z +ℤ pos s.standing) (diff-sub s.credit s.debit s.plan)
-      ∙ diff-add s.credit (s.debit + s.plan) s.standing))
+      simp (w.credit, w.debit, w.plan, w.standing)
+      (rw (← settled_is t l q.invariant, g.balance, ← g.plan, ← g.standing)
+      (sym (ap (λ (z : ℤ). z +ℤ pos s.standing) (diff-sub s.credit s.debit s.plan) ∙ diff-add s.credit (s.debit + s.plan) s.standing)))
 
 -- ---- so for every list that made the account
 
@@ -48,17 +43,17 @@ module _ (t : Terms) (a : Account) (l : Ledger) (q : Represents t a l) where
 promised : {A : Type 0} (x : Totals → A) (f : Terms → Ledger → A) → ((t : Terms) (a : Account) (l : Ledger) → Represents t a l → x a.totals ≡ f t l) → (s : Totals) (r : A) → r ≡ x s → IsReading s (x s) f r
 promised x f g s r e = record { totals = e; ledgers = λ a h t es m. e ∙ ap x (sym h) ∙ g t a (ledger_of t es) (made-represents t es a m) }
 
-pub is-balance : (s : Totals) (r : ℤ) → r ≡ balance_of s → IsBalance s r
-is-balance = promised balance_of _ balance-reading
+pub is_balance : (s : Totals) (r : ℤ) → r ≡ balance_of s → IsBalance s r
+is_balance = promised balance_of _ balance-reading
 
-pub is-plan : (s : Totals) → IsPlan s s.plan
-is-plan s = promised (λ (z : Totals). z.plan) _ (λ t a l q. q.agree.sums.plan) s s.plan refl
+pub is_plan : (s : Totals) → IsPlan s s.plan
+is_plan s = promised (λ (z : Totals). z.plan) _ (λ t a l q. q.agree.sums.plan) s s.plan refl
 
-pub is-service : (s : Totals) → IsService s s.on
-is-service s = promised (λ (z : Totals). z.on) _ (λ t a l q. q.agree.sums.on) s s.on refl
+pub is_service : (s : Totals) → IsService s s.on
+is_service s = promised (λ (z : Totals). z.on) _ (λ t a l q. q.agree.sums.on) s s.on refl
 
-pub is-settled : (s : Totals) (r : ℤ) → r ≡ settled_of s → IsSettled s r
-is-settled = promised settled_of _ settled-reading
+pub is_settled : (s : Totals) (r : ℤ) → r ≡ settled_of s → IsSettled s r
+is_settled = promised settled_of _ settled-reading
 
-pub is-estimates : (s : Totals) → IsEstimates s s.standing
-is-estimates s = promised (λ (z : Totals). z.standing) _ (λ t a l q. q.agree.sums.standing) s s.standing refl
+pub is_estimates : (s : Totals) → IsEstimates s s.standing
+is_estimates s = promised (λ (z : Totals). z.standing) _ (λ t a l q. q.agree.sums.standing) s s.standing refl

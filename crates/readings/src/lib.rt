@@ -20,13 +20,11 @@ fn signed(up: u64, down: u64) -> i64
 pub fn balance(s: Totals) -> i64
     ensures { IsBalance s result }
 {
-    if s.credit > MAX_TOTAL {
-        return 0;
+    if s.credit <= MAX_TOTAL && s.debit <= MAX_TOTAL {
+        signed(s.credit, s.debit)
+    } else {
+        0
     }
-    if s.debit > MAX_TOTAL {
-        return 0;
-    }
-    signed(s.credit, s.debit)
 }
 
 // The unpaid plan R, in cents.
@@ -47,19 +45,15 @@ pub fn service(s: Totals) -> bool
 pub fn settled(s: Totals) -> i64
     ensures { IsSettled s result }
 {
-    if s.credit > MAX_TOTAL {
-        return 0;
+    if s.credit <= MAX_TOTAL
+        && s.debit <= MAX_TOTAL
+        && s.plan <= MAX_TOTAL
+        && s.standing <= MAX_TOTAL
+    {
+        signed(s.credit + s.standing, s.debit + s.plan)
+    } else {
+        0
     }
-    if s.debit > MAX_TOTAL {
-        return 0;
-    }
-    if s.plan > MAX_TOTAL {
-        return 0;
-    }
-    if s.standing > MAX_TOTAL {
-        return 0;
-    }
-    signed(s.credit + s.standing, s.debit + s.plan)
 }
 
 // The cost of the standing estimates, in cents.

@@ -14,39 +14,52 @@ use Rattle.terms.specs.declared.Terms.{Terms}
 use Rattle.ledger.specs.declared.Event.{Event}
 use Rattle.ledger.specs.Event.{is_estimate, is_read, in_limits}
 use Rattle.ledger.specs.Entries.{usage_cost, last_day, usage_day, estimate_cost_of}
-use Rattle.ledger.specs.Rules.{Ledger}
+use Rattle.ledger.specs.Rules.{Ledger, max_payments}
 use Rattle.ledger.specs.Sums.{standing_cost}
 use Rattle.ledger.specs.Ledger.{Outcome, refusal, ledger_step}
 use Rattle.ledger.proofs.Accepted.{Accepted, accepted-by}
 use Rattle.ledger.specs.Invariant.{Invariant}
 use Rattle.ledger.proofs.Money.{diff, diff-add, diff-sub}
 use Rattle.ledger.proofs.Identity.{standing-then}
-use Rattle.moves.specs.Moves.{is_account, early_code, refusing}
-use Rattle.moves.specs.declared.Move.{Move}
+use Rattle.moves.specs.Moves.{Moved, max_total, is_account, early_code, refusing}
+use Rattle.moves.specs.declared.Totals.{Totals}
 use Rattle.moves.proofs.Early.{Early, early}
-use Rattle.account.specs.Step.{cells_of, posted}
+use Rattle.account.specs.Step.{Stepped, cells_of, posted}
 use Rattle.account.specs.declared.Account.{Account}
-use Rattle.account.specs.declared.Posted.{Posted}
-use Rattle.refinement.specs.Agree.{Agree}
+use Rattle.refinement.specs.Agree.{Bounds, Agree}
 use Rattle.refinement.proofs.Refusals.{Passes, refuses}
 
 -- the same answer, and they agree again
-pub record Same (t : Terms) (p : Posted) (o : Outcome) : Type 0 where
+pub record Same (t : Terms) (p : Stepped) (o : Outcome) : Type 0 where
   pub code : p.code ≡ o.answer.code
   pub value : p.value ≡ o.answer.value
   pub again : Agree t p.account o.ledger
 
 -- The move x of the event, written into the account, is what the ledger makes of it.
-pub record Refines (a : Account) (l : Ledger) (e : Event) (x : Move) : Type 0 where
+pub record Refines (a : Account) (l : Ledger) (e : Event) (x : Moved) : Type 0 where
   pub same : Same a.terms (posted a e x) (ledger_step a.terms l e)
+
+-- no total of an account is past the largest
+pub record Within (s : Totals) : Type 0 where
+  pub credit : leb s.credit max_total ≡ true
+  pub debit : leb s.debit max_total ≡ true
+  pub plan : leb s.plan max_total ≡ true
+  pub standing : leb s.standing max_total ≡ true
+
+pub within : (s : Totals) → Bounds s → Within s
+within s b = record {
+  credit = le-leb _ _ (omega (arith, b.credit, b.full));
+  debit = le-leb _ _ (omega (arith, b.debit, b.full));
+  plan = le-leb _ _ (omega (arith, b.plan, b.full));
+  standing = le-leb _ _ (omega (arith, b.standing, b.full));
+}
 
 -- a record that agrees with a ledger is an account
 pub is-account : (t : Terms) (a : Account) (l : Ledger) → Agree t a l → is_account a.terms a.totals ≡ true
 unfolding is_account terms_code
 is-account t a l g =
-    let b = g.bounds in
-    simp
-    (g.terms, g.valid, le-leb a.totals.credit 1152921504606846976 (omega (arith, b.credit, b.full)), le-leb a.totals.debit 1152921504606846976 (omega (arith, b.debit, b.full)), le-leb a.totals.plan 1152921504606846976 (omega (arith, b.plan, b.full)), le-leb a.totals.standing 1152921504606846976 (omega (arith, b.standing, b.full)), le-leb a.totals.count 128 b.count)
+    let w = within a.totals g.bounds in
+    simp (g.terms, g.valid, w.credit, w.debit, w.plan, w.standing, le-leb a.totals.count max_payments g.bounds.count)
 
 module _ (a : Account) (l : Ledger) (g : Agree a.terms a l) where
   abbrev t : Terms

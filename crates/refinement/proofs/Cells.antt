@@ -18,9 +18,8 @@ use Rattle.ledger.specs.Months.{charges_in}
 use Rattle.ledger.specs.Ledger.{Effect, refusal, effect_of, joined}
 use Rattle.ledger.specs.Invariant.{Invariant}
 use Rattle.ledger.proofs.Cases.{decide}
-use Rattle.moves.specs.Moves.{cells_before, move, totals}
+use Rattle.moves.specs.Moves.{Moved, cells_before, move, totals}
 use Rattle.moves.specs.declared.Totals.{Totals}
-use Rattle.moves.specs.declared.Move.{Move}
 use Rattle.account.specs.Record.{blank_day, no_payment}
 use Rattle.account.specs.Step.{cells_of, with_cells}
 use Rattle.account.specs.declared.Account.{Account}
@@ -43,7 +42,7 @@ abbrev used : ℕ → Bool
 used k = eqb k 5 || eqb k 6
 
 -- A move m of sort k, with whatever its sort leaves alone as it was before.
-abbrev pub left : ℕ → Account → Event → Move → Move
+abbrev pub left : ℕ → Account → Event → Moved → Moved
 left k a e m =
     let c = cells_of a e in
     move m.code m.value
@@ -74,7 +73,7 @@ pub record Money (a : Account) (s : Totals) (x : Effect) : Type 0 where
   pub plan-most : s.plan ≤ (a.totals.events + 1) * 50000000000
 
 module _ (a : Account) (l : Ledger) (e : Event) (g : Agree a.terms a l) (s : Invariant a.terms l) (h : Passes l e) (z : refusal a.terms l e ≡ 0)
-    (k : ℕ) (q : e.sort ≡ k) (m : Move) (w : m ≡ left k a e m) (x : Effect) (o : Own k a.terms (with_cells a e m) (joined l e x).list) where
+    (k : ℕ) (q : e.sort ≡ k) (m : Moved) (w : m ≡ left k a e m) (x : Effect) (o : Own k a.terms (with_cells a e m) (joined l e x).list) where
   abbrev t : Terms
   t = a.terms
 
@@ -93,37 +92,37 @@ module _ (a : Account) (l : Ledger) (e : Event) (g : Agree a.terms a l) (s : Inv
   payments-law : (n : ℕ) → n < payment_count after → get_or b.payments n no_payment ≡ recorded_payment after n
   unfolding cells_before
   payments-law = decide (eqb k 1) (λ y. own 1 y) (λ f. decide (eqb k 2) (λ y. own 2 y) (λ f'.
-      let number = simp (f, f') at (ap (λ (y : Move). y.number) w) in
-      let payment = simp (f, f') at (ap (λ (y : Move). y.payment) w) in
+      let number = simp (f, f') at (ap (λ (y : Moved). y.number) w) in
+      let payment = simp (f, f') at (ap (λ (y : Moved). y.payment) w) in
       rw (number, payment, payments-left a e) (payments-stay t a e x.part l.list g.kept (sort-is 1 f) (sort-is 2 f'))))
 
   days-law : (u : ℕ) → u < 400 → (get_or b.days u blank_day).usage ≡ recorded_usage (usage_day t after u)
   unfolding cells_before
   days-law = decide (eqb k 5) (λ y. (own 5 y).0) (λ f. decide (eqb k 6) (λ y. (own 6 y).0) (λ f'.
-      rw (simp (f, f') at (ap (λ (y : Move). y.day) w), days-left a e) (days-stay t a e x.part l.list g.kept (sort-is 5 f) (sort-is 6 f'))))
+      rw (simp (f, f') at (ap (λ (y : Moved). y.day) w), days-left a e) (days-stay t a e x.part l.list g.kept (sort-is 5 f) (sort-is 6 f'))))
 
   marks-law : (d : ℕ) → d < 400 → get_or b.marks d 0 ≡ recorded_marks after d
   unfolding cells_before
   marks-law = decide (eqb k 8) (λ y. own 8 y) (λ f.
-      rw (simp f at (ap (λ (y : Move). y.kind) w), simp f at (ap (λ (y : Move). y.from) w), simp f at (ap (λ (y : Move). y.to) w), marks-left a e) (marks_stay t a e x.part l.list g.kept (sort-is 8 f)))
+      rw (simp f at (ap (λ (y : Moved). y.kind) w), simp f at (ap (λ (y : Moved). y.from) w), simp f at (ap (λ (y : Moved). y.to) w), marks-left a e) (marks_stay t a e x.part l.list g.kept (sort-is 8 f)))
 
   warned-law : (d : ℕ) → d < 400 → get_or b.warned d 0 ≡ cond (warned_on after d) 1 0
   unfolding cells_before
   warned-law = decide (eqb k 7) (λ y. own 7 y) (λ f.
-      rw (simp f at (ap (λ (y : Move). y.warned) w), warned-left a e) (warned-stay t a e x.part l.list g.kept (sort-is 7 f)))
+      rw (simp f at (ap (λ (y : Moved). y.warned) w), warned-left a e) (warned-stay t a e x.part l.list g.kept (sort-is 7 f)))
 
   charges-law : (i j : ℕ) → i < 15 → j < 5 → get_or b.charges (5 * i + j) 0 ≡ charges_in t after i (suc j)
   unfolding cells_before
   charges-law = decide (eqb k 4) (λ y. own 4 y) (λ f.
-      rw (simp f at (ap (λ (y : Move). y.place) w), simp f at (ap (λ (y : Move). y.sum) w), charges-left a e) (charges-stay t a e x.part l.list g.kept (sort-is 4 f)))
+      rw (simp f at (ap (λ (y : Moved). y.place) w), simp f at (ap (λ (y : Moved). y.sum) w), charges-left a e) (charges-stay t a e x.part l.list g.kept (sort-is 4 f)))
 
   -- ---- the totals that no sort but its own writes
 
   events-law : m.totals.events ≡ a.totals.events + 1
-  events-law = ap (λ (y : Move). y.totals.events) w
+  events-law = ap (λ (y : Moved). y.totals.events) w
 
   standing-still : eqb k 5 ≡ false → eqb k 6 ≡ false → m.totals.standing ≡ a.totals.standing
-  standing-still f f' = ap (λ (y : Move). y.totals.standing) w ∙ simp (f, f')
+  standing-still f f' = ap (λ (y : Moved). y.totals.standing) w ∙ simp (f, f')
 
   standing-law : m.totals.standing ≡ standing_cost t after
   standing-law = decide (eqb k 5) (λ y. (own 5 y).1) (λ f. decide (eqb k 6) (λ y. (own 6 y).1) (λ f'.
@@ -134,13 +133,13 @@ module _ (a : Account) (l : Ledger) (e : Event) (g : Agree a.terms a l) (s : Inv
       omega (arith, standing-still f f', g.bounds.standing, events-law)))
 
   count_law : m.totals.count ≡ payment_count after
-  count_law = ap (λ (y : Move). y.totals.count) w ∙ decide (eqb k 1)
+  count_law = ap (λ (y : Moved). y.totals.count) w ∙ decide (eqb k 1)
       (λ y. simp y (rw g.sums.count (sym (payments-one e x.part l.list (sort-is 1 y)))))
       (λ f. simp f (g.sums.count ∙ sym (payments-same e x.part l.list (sort-is 1 f))))
 
   count_most : m.totals.count ≤ 128
   unfolding refusals
-  count_most = rw (ap (λ (y : Move). y.totals.count) w) (decide (eqb k 1)
+  count_most = rw (ap (λ (y : Moved). y.totals.count) w) (decide (eqb k 1)
       (λ y. simp y (omega (arith, g.sums.count, leb-false 128 (payment_count l.list) (simp (sort-is 1 y) at ((taken a l g e h s z).rule 5)))))
       (λ f. simp f g.bounds.count))
 
@@ -153,7 +152,7 @@ module _ (a : Account) (l : Ledger) (e : Event) (g : Agree a.terms a l) (s : Inv
     valid = g.valid;
     sums = record {
       events = omega (arith, events-law, g.sums.events);
-      last = ap (λ (v : Move). v.totals.last) w;
+      last = ap (λ (v : Moved). v.totals.last) w;
       balance = y.balance;
       plan = y.plan;
       on = y.on;

@@ -4,6 +4,7 @@ use Prim.Native.Nat.{ℕ}
 use native.Mathlib.Omega.{arith}
 use mathlib.Core.Path.{◌≡◌, refl, sym, ap, ap₂, ◌∙◌}
 use mathlib.Core.Bool.{true}
+use Rattle.std.specs.Prelude.{Ok}
 use mathlib.Core.List.{List, [], ◌∷◌, ◌++◌}
 use Rattle.terms.specs.Terms.{valid_terms, terms_code}
 use Rattle.terms.specs.declared.Terms.{Terms}
@@ -14,9 +15,8 @@ use Rattle.ledger.specs.Calls.{ledger_codes}
 use Rattle.ledger.proofs.Cases.{decide}
 use Rattle.ledger.proofs.Identity.{invariant-valid, invariant-step}
 use Rattle.account.specs.Record.{fresh}
-use Rattle.account.specs.Step.{step_of, IsOpened}
+use Rattle.account.specs.Step.{Opened, step_of, IsOpened}
 use Rattle.account.specs.declared.Account.{Account}
-use Rattle.account.specs.declared.Opened.{Opened}
 use Rattle.refinement.specs.Lists.{account_after, codes_of, Made}
 use Rattle.refinement.specs.Agree.{Represents, Refinement}
 use Rattle.refinement.proofs.Refines.{refines, agree_fresh}
@@ -53,10 +53,10 @@ refinement-holds t v = record {
 
 -- ---- accounts that this software made
 
--- an opening that is answered 0 had terms within their limits
-pub opened-valid : (t : Terms) (o : Opened) → IsOpened t o → o.code ≡ 0 → valid_terms t ≡ true
+-- terms that `open` makes an account of were within their limits
+pub opened-valid : (t : Terms) (a : Account) → IsOpened t (Ok a) → valid_terms t ≡ true
 unfolding terms_code
-opened-valid t o is z = decide (valid_terms t) (λ y. y) (λ f. absurd (let one : ◌≡◌ {A = ℕ} 1 0 = simp f at (sym (ap (λ (x : Opened). x.code) is) ∙ z) in omega arith))
+opened-valid t a is = decide (valid_terms t) (λ y. y) (λ f. absurd (let one : ◌≡◌ {A = ℕ} 0 1 = simp f at (ap (λ (x : Opened). x.code) is) in omega arith))
 
 pub made-represents : (t : Terms) (es : List Event) (a : Account) → Made t es a → Represents t a (ledger_of t es)
 made-represents t es a m = rw m.account (represents-after t es (fresh t) opening (represents-fresh t m.valid))

@@ -20,8 +20,7 @@ use Rattle.ledger.specs.Ledger.{effect_of, plan_part, pay_effect, reverse_effect
 use Rattle.ledger.specs.Invariant.{Invariant}
 use Rattle.ledger.proofs.Cases.{decide}
 use Rattle.ledger.proofs.Money.{diff}
-use Rattle.moves.specs.Moves.{max_total, cells_before, part_in, charge_place, pay_of, reverse_of, credit_of, charge_of}
-use Rattle.moves.specs.declared.Move.{Move}
+use Rattle.moves.specs.Moves.{Moved, max_total, cells_before, part_in, charge_place, pay_of, reverse_of, credit_of, charge_of}
 use Rattle.moves.specs.declared.Payment.{Payment}
 use Rattle.moves.proofs.Arms.{branch}
 use Rattle.moves.proofs.Early.{pay-limits, credit-limits, charge-limits}
@@ -38,7 +37,7 @@ module _ (a : Account) (l : Ledger) (e : Event) (g : Agree a.terms a l) (s : Inv
   abbrev t : Terms
   t = a.terms
 
-  abbrev c : Move
+  abbrev c : Moved
   c = cells_of a e
 
   part-is : part_in t a.totals e ≡ plan_part t l e.amount

@@ -18,8 +18,7 @@ use Rattle.ledger.specs.Months.{charges_in}
 use Rattle.ledger.specs.Ledger.{opening, refusal, ledger_step}
 use Rattle.ledger.specs.Invariant.{Invariant}
 use Rattle.ledger.proofs.Cases.{decide}
-use Rattle.moves.specs.Moves.{cells_before, early_code, by_sort, move_of}
-use Rattle.moves.specs.declared.Move.{Move}
+use Rattle.moves.specs.Moves.{Moved, cells_before, early_code, by_sort, move_of}
 use Rattle.moves.proofs.Arms as moves
 use Rattle.account.specs.Record.{fresh, blank_day, no_payment}
 use Rattle.account.specs.Step.{cells_of, step_of}
@@ -35,7 +34,7 @@ module _ (a : Account) (l : Ledger) (e : Event) (s : Invariant a.terms l) (g : A
   abbrev t : Terms
   t = a.terms
 
-  abbrev c : Move
+  abbrev c : Moved
   c = cells_of a e
 
   by-sort : Passes l e → Refines a l e (by_sort t c a.charges a.marks a.warned e e.sort)

@@ -24,8 +24,7 @@ use Rattle.ledger.specs.Ledger.{effect_of, service_effect, plan_effect, deferred
 use Rattle.ledger.specs.Invariant.{Invariant}
 use Rattle.ledger.proofs.Cases.{decide, both}
 use Rattle.ledger.proofs.Money.{diff, diff-eq, diff-zero, diff-lt, diff-ge, diff-low, diff-gap}
-use Rattle.moves.specs.Moves.{cells_before, tallied, with_service, plan_condition_met, deferral_of, barred_on, warn_of, mark_of, deferring_of, plan_of, served_of, disconnect_of, connect_of}
-use Rattle.moves.specs.declared.Move.{Move}
+use Rattle.moves.specs.Moves.{Moved, cells_before, tallied, with_service, plan_condition_met, deferral_of, barred_on, warn_of, mark_of, deferring_of, plan_of, served_of, disconnect_of, connect_of}
 use Rattle.moves.proofs.Arms.{branch}
 use Rattle.moves.proofs.Early.{mark-limits}
 use Rattle.account.specs.Step.{day_at, cells_of}
@@ -75,7 +74,7 @@ module _ (a : Account) (l : Ledger) (e : Event) (g : Agree a.terms a l) (s : Inv
   abbrev t : Terms
   t = a.terms
 
-  abbrev c : Move
+  abbrev c : Moved
   c = cells_of a e
 
   day : e.day ≤ 399

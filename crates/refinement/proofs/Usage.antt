@@ -19,9 +19,8 @@ use Rattle.ledger.specs.Invariant.{Invariant}
 use Rattle.ledger.proofs.Cases.{neither}
 use Rattle.ledger.proofs.Money.{diff, diff-sub}
 use Rattle.ledger.proofs.Identity.{blank-is}
-use Rattle.moves.specs.Moves.{cells_before, refusing, by_usage, wh_cost, estimate_of, estimated_of, read_of, metered_of}
+use Rattle.moves.specs.Moves.{Moved, cells_before, refusing, by_usage, wh_cost, estimate_of, estimated_of, read_of, metered_of}
 use Rattle.moves.specs.declared.Usage.{Usage}
-use Rattle.moves.specs.declared.Move.{Move}
 use Rattle.moves.proofs.Arms.{branch}
 use Rattle.moves.proofs.Early.{cost-on}
 use Rattle.account.specs.Record.{blank_day}
@@ -38,7 +37,7 @@ module _ (a : Account) (l : Ledger) (e : Event) (g : Agree a.terms a l) (s : Inv
   abbrev t : Terms
   t = a.terms
 
-  abbrev c : Move
+  abbrev c : Moved
   c = cells_of a e
 
   -- the usage day's state in the ledger

@@ -1,22 +1,13 @@
--- `readings::balance` meets its contract: off the totals by the tests that led there, and so the ledger's for every list that made them.
--- Assumes nothing.
-use mathlib.Core.Path.{◌∙◌}
-use borrow.Author.Tests.{le-leb, lt-leb}
+use Rattle.std.proofs.Common.{arith}
+use Rattle.std.proofs.lemmas.Bool.Decides.{leb_tells}
 use Rattle.readings.specs.Readings.{balance_of}
-use Rattle.readings.proofs.After.{is-balance}
-use Rattle.readings.proofs.Range.{back}
+use Rattle.readings.proofs.After.{is_balance}
 use Rattle.readings.proofs.balance.Goals as goal
 
-pub returns-then-s-gt-MAX_TOTAL : goal.returns-then-s-gt-MAX_TOTAL
+pub returns-then-s-le-MAX_TOTAL-2 : goal.returns-then-s-le-MAX_TOTAL-2
 unfolding balance_of
-returns-then-s-gt-MAX_TOTAL c = is-balance _ _ (simp (lt-leb _ _ c.if-s-gt-MAX_TOTAL.true))
+returns-then-s-le-MAX_TOTAL-2 c = is_balance _ _ (grind (arith, leb_tells))
 
-pub returns-then-s-gt-MAX_TOTAL-2 : goal.returns-then-s-gt-MAX_TOTAL-2
+pub returns-else-s-le-MAX_TOTAL : goal.returns-else-s-le-MAX_TOTAL
 unfolding balance_of
-returns-then-s-gt-MAX_TOTAL-2 c = is-balance _ _ (simp (le-leb _ _ c.if-s-gt-MAX_TOTAL.false, lt-leb _ _ c.if-s-gt-MAX_TOTAL-2.true))
-
-pub returns : goal.returns
-unfolding balance_of
-returns c =
-    is-balance _ _
-    (back c.signed.result (record { sfits = c.signed.type_inv }) ∙ simp (le-leb _ _ c.if-s-gt-MAX_TOTAL.false, le-leb _ _ c.if-s-gt-MAX_TOTAL-2.false) c.signed.ensures)
+returns-else-s-le-MAX_TOTAL c = is_balance _ _ (let h = c.else-s-le-MAX_TOTAL.either in grind (arith, leb_tells))
