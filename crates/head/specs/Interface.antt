@@ -2,10 +2,8 @@
 use Rattle.std.specs.Prelude.{ℕ, ◌≡◌, List}
 use Rattle.ledger.specs.declared.Answer.{Answer}
 use Rattle.posting.specs.Posting.{Row}
-use Rattle.image.specs.Image.{image_after}
+use Rattle.image.specs.Image.{ImageOpened, ImagePosted, image_after}
 use Rattle.image.specs.declared.Image.{Image}
-use Rattle.image.specs.declared.ImageOpened.{ImageOpened}
-use Rattle.image.specs.declared.ImagePosted.{ImagePosted}
 
 pub record OpensImage (o : ImageOpened) (i : Image) (r : ℕ) : Type 0 where
   pub image : i ≡ o.image

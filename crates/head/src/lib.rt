@@ -4,15 +4,27 @@
 #![tactic(auto)]
 
 ghost use Rattle.std.specs.Prelude.{◌≡◌};
+ghost use Rattle.ledger.specs.Refusals.{code_of};
 ghost use Rattle.posting.specs.Posting.{row_of};
 ghost use Rattle.transcript.specs.Transcript.{WholeTranscript};
 ghost use Rattle.statement.specs.Statement.{WholeStatement};
 ghost use Rattle.image.specs.Image.{account_of, opened_of, posted_of, readings_of, summary_in};
 ghost use Rattle.head.specs.Interface.{OpensImage, PostsImage, PostsRowImage};
 
+use account::Account;
 use image::{Image, Reading};
-use ledger::{Answer, Event, Summary};
+use ledger::{Answer, Event, Refusal, Summary};
 use terms::Terms;
+
+// The code of an answer: 0 where it is no refusal.
+fn code<T: Drop>(answer: Result<T, Refusal>) -> u8
+    ensures { result ≡ code_of answer }
+{
+    match answer {
+        Ok(_) => 0,
+        Err(refusal) => refusal.code(),
+    }
+}
 
 // The transcript of a text.
 #[unsafe(no_mangle)]
@@ -35,9 +47,9 @@ pub extern "C" fn prepay_statement(text: &[u8], out: &mut [u8]) -> usize
 pub extern "C" fn prepay_open(account: &mut Image, t: Terms) -> u8
     ensures { OpensImage (opened_of t) account.new result }
 {
-    let o = image::open(t);
-    *account = o.image;
-    o.code
+    let opened = image::open(t);
+    *account = opened.account;
+    code(opened.answer)
 }
 
 // One event.
@@ -46,12 +58,9 @@ pub extern "C" fn prepay_post(account: &mut Image, e: Event) -> Answer
     ensures { PostsImage (posted_of account.old e) account.new result }
 {
     let before = *account;
-    let p = image::post(before, e);
-    *account = p.image;
-    Answer {
-        code: p.code,
-        value: p.value,
-    }
+    let posted = image::post(before, e);
+    *account = posted.account;
+    Answer::from(posted.answer)
 }
 
 // A row of events in order, one code byte each; 16 where the buffer is shorter than the row.
@@ -60,10 +69,10 @@ pub extern "C" fn prepay_row(account: &mut Image, row: &[Event], codes: &mut [u8
     ensures { PostsRowImage account.old (row_of (account_of account.old) row.now codes.old) account.new codes.new result }
 {
     let before = *account;
-    let mut a = image::account_of(before);
-    let code = posting::post_row(&mut a, row, codes);
+    let mut a = Account::from(before);
+    let answer = posting::post_row(&mut a, row, codes);
     *account = image::image_after(before, a);
-    code
+    code(answer)
 }
 
 // The readings.
@@ -71,8 +80,7 @@ pub extern "C" fn prepay_row(account: &mut Image, row: &[Event], codes: &mut [u8
 pub extern "C" fn prepay_readings(account: &Image) -> Reading
     ensures { result ≡ readings_of account.now }
 {
-    let held = *account;
-    image::readings(held)
+    image::readings(account)
 }
 
 // A month's figures.
@@ -80,6 +88,5 @@ pub extern "C" fn prepay_readings(account: &Image) -> Reading
 pub extern "C" fn prepay_summary(account: &Image, month: u32) -> Summary
     ensures { result ≡ summary_in account.now month }
 {
-    let held = *account;
-    image::summary(held, month)
+    Summary::from(image::summary(*account, month))
 }

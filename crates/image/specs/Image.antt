@@ -1,11 +1,13 @@
 -- The account record as numbers alone, and the calls over it, by the record's own.
-use Rattle.std.specs.Prelude.{ℕ, ◌≡◌, Bool, true, false, cond, ◌&&◌, List, [], ◌∷◌, map, leb, eqb}
+use Rattle.std.specs.Prelude.{ℕ, ◌≡◌, Bool, true, false, cond, ◌&&◌, List, [], ◌∷◌, map, leb, eqb, Result}
 use Rattle.terms.specs.Terms.{zero_terms}
 use Rattle.terms.specs.declared.Terms.{Terms}
 use Rattle.terms.specs.Terms.{terms_code}
 use Rattle.ledger.specs.declared.Event.{Event}
 use Rattle.ledger.specs.declared.Summary.{Summary}
+use Rattle.ledger.specs.declared.Refusal.{Refusal}
 use Rattle.ledger.specs.Months.{no_summary}
+use Rattle.ledger.specs.Refusals.{code_of, value_of}
 use Rattle.account.specs.Record.{fresh}
 use Rattle.account.specs.Step.{step_of}
 use Rattle.moves.specs.declared.Usage.{Usage}
@@ -20,8 +22,6 @@ use Rattle.image.specs.declared.DayImage.{DayImage}
 use Rattle.image.specs.declared.PaymentImage.{PaymentImage}
 use Rattle.image.specs.declared.TotalsImage.{TotalsImage}
 use Rattle.image.specs.declared.Image.{Image}
-use Rattle.image.specs.declared.ImagePosted.{ImagePosted}
-use Rattle.image.specs.declared.ImageOpened.{ImageOpened}
 use Rattle.image.specs.declared.Reading.{Reading}
 
 -- ---- usage days: state 0 blank, 1 estimated, 2 metered
@@ -126,8 +126,23 @@ pub record Inverse : Type 0 where
 
 -- ---- the calls
 
+-- the image, and 0, or 1 where the terms are outside their limits
+pub record ImageOpened : Type 0 where
+  pub image : Image
+  pub code : ℕ
+
 unfoldable pub opened_of : Terms → ImageOpened
 opened_of t = record { image = image_of (fresh t); code = terms_code t }
+
+-- what `open` hands back
+abbrev pub opening_of : Image → Result ℕ Refusal → ImageOpened
+opening_of i answer = record { image = i; code = code_of answer }
+
+-- the image after an event, and the answer to it
+pub record ImagePosted : Type 0 where
+  pub image : Image
+  pub code : ℕ
+  pub value : ℕ
 
 unfoldable pub posted_of : Image → Event → ImagePosted
 posted_of i e = record {
@@ -135,6 +150,10 @@ posted_of i e = record {
   code = (step_of (account_of i) e).code;
   value = (step_of (account_of i) e).value;
 }
+
+-- what `post` hands back
+abbrev pub posting_of : Image → Result ℕ Refusal → ImagePosted
+posting_of i answer = record { image = i; code = code_of answer; value = value_of answer }
 
 unfoldable pub readings_of : Image → Reading
 readings_of i = record {

@@ -3,22 +3,21 @@
 // specs/Image.antt.
 #![tactic(auto)]
 
-ghost use Rattle.std.specs.Prelude.{◌≡◌, cond, map};
-ghost use Rattle.image.specs.Image.{usage_image, usage_of, is_day_image, day_image, day_of, is_payment_image, payment_image, payment_of};
-ghost use Rattle.terms.specs.Terms.{zero_terms};
-ghost use Rattle.image.specs.Image.{totals_image, totals_of, every, is_image, account_of, image_of, image_after};
-ghost use Rattle.image.specs.Image.{opened_of, posted_of, readings_of, summary_in, Inverse, CallsAgree};
+ghost use Rattle.std.specs.Prelude.{◌≡◌, cond};
+ghost use Rattle.ledger.specs.Refusals.{answer_of, summary_of};
+ghost use Rattle.image.specs.Image.{is_day_image, day_image, day_of, is_payment_image, payment_image, payment_of};
+ghost use Rattle.image.specs.Image.{totals_image, totals_of, is_image, account_of, image_of, image_after};
+ghost use Rattle.image.specs.Image.{opening_of, opened_of, posting_of, posted_of, readings_of, summary_in, Inverse, CallsAgree};
 
-use account::{Account, Payments, UsageDays};
-use calendar::Date;
-use ledger::{Event, Summary};
+use account::{Account, Posted};
+use ledger::{Event, Figures, Refusal};
 use marks::DayBytes;
 use moves::{Charges, Day, Payment, Totals, Usage};
 use terms::Terms;
 
 // A usage day: state 0 blank, 1 estimated, 2 metered. A blank day has 0 Wh and costs 0.
 #[repr(C)]
-#[derive(Clone, Copy)]
+#[derive(Clone, Copy, Debug, PartialEq, Eq, Default)]
 pub struct DayImage {
     pub state: u32,
     pub wh: u32,
@@ -26,7 +25,7 @@ pub struct DayImage {
 }
 
 #[repr(C)]
-#[derive(Clone, Copy)]
+#[derive(Clone, Copy, Debug, PartialEq, Eq, Default)]
 pub struct PaymentImage {
     pub day: u32,
     pub amount: u32,
@@ -36,7 +35,7 @@ pub struct PaymentImage {
 }
 
 #[repr(C)]
-#[derive(Clone, Copy)]
+#[derive(Clone, Copy, Debug, PartialEq, Eq, Default)]
 pub struct TotalsImage {
     pub credit: u64,
     pub debit: u64,
@@ -72,24 +71,9 @@ pub struct Image {
     pub charges: Charges,
 }
 
-// The image after an event, and the answer to it.
-#[derive(Clone, Copy)]
-pub struct ImagePosted {
-    pub image: Image,
-    pub code: u8,
-    pub value: u64,
-}
-
-// The image, and 0, or 1 where the terms are outside their limits.
-#[derive(Clone, Copy)]
-pub struct ImageOpened {
-    pub image: Image,
-    pub code: u8,
-}
-
 // The five readings, in cents; service is 0 or 1.
 #[repr(C)]
-#[derive(Clone, Copy)]
+#[derive(Clone, Copy, Debug, PartialEq, Eq)]
 pub struct Reading {
     pub balance: i64,
     pub settled: i64,
@@ -100,288 +84,180 @@ pub struct Reading {
 
 // ---- usage days
 
-fn usage_of(d: DayImage) -> Usage
-    ensures { result ≡ usage_of d }
-{
-    if d.state == 1 {
-        return Usage::Estimated {
-            wh: d.wh,
-            cost: d.cost,
-        };
-    }
-    if d.state == 2 {
-        return Usage::Metered {
-            wh: d.wh,
-            cost: d.cost,
-        };
-    }
-    Usage::Blank
-}
+impl From<DayImage> for Day {
+    ghost from_gives = { λ i d. d ≡ day_of i };
 
-fn usage_image(u: Usage) -> DayImage
-    ensures { result ≡ usage_image u }
-{
-    match u {
-        Usage::Blank => DayImage {
-            state: 0,
-            wh: 0,
-            cost: 0,
-        },
-        Usage::Estimated { wh, cost } => DayImage { state: 1, wh, cost },
-        Usage::Metered { wh, cost } => DayImage { state: 2, wh, cost },
+    #[tactic(auto, unfolding(crate::specs::Image::usage_of))]
+    fn from(image: DayImage) -> Day {
+        let DayImage { state, wh, cost } = image;
+        let usage = match state {
+            1 => Usage::Estimated { wh, cost },
+            2 => Usage::Metered { wh, cost },
+            _ => Usage::Blank,
+        };
+        Day { usage }
     }
 }
 
-fn is_day_image(d: DayImage) -> bool
-    ensures { result ≡ is_day_image d }
-{
-    if d.state == 0 {
-        if d.wh != 0 {
-            return false;
+impl From<Day> for DayImage {
+    ghost from_gives = { λ d i. i ≡ day_image d };
+
+    fn from(day: Day) -> DayImage {
+        match day.usage {
+            Usage::Blank => DayImage::default(),
+            Usage::Estimated { wh, cost } => DayImage { state: 1, wh, cost },
+            Usage::Metered { wh, cost } => DayImage { state: 2, wh, cost },
         }
-        return d.cost == 0;
     }
-    d.state <= 2
 }
 
-fn days_of(l: DayImages) -> UsageDays
-    ensures { result ≡ map day_of l }
-{
-    let mut days = [Day {
-        usage: Usage::Blank,
-    }; DAYS];
-    let mut i: usize = 0;
-    while i < DAYS {
-        days[i] = Day {
-            usage: usage_of(l[i]),
-        };
-        i += 1;
-    }
-    days
-}
-
-fn day_images(l: UsageDays) -> DayImages
-    ensures { result ≡ map day_image l }
-{
-    let mut images = [DayImage {
-        state: 0,
-        wh: 0,
-        cost: 0,
-    }; DAYS];
-    let mut i: usize = 0;
-    while i < DAYS {
-        let d = l[i];
-        let u = d.usage;
-        images[i] = usage_image(u);
-        i += 1;
-    }
-    images
-}
-
-fn are_day_images(l: DayImages) -> bool
-    ensures { result ≡ every is_day_image l }
-{
-    let mut i: usize = 0;
-    while i < DAYS {
-        if !is_day_image(l[i]) {
-            return false;
+impl DayImage {
+    #[tactic(auto, unfolding(crate::specs::Image::is_day_image))]
+    fn is_image(self) -> bool
+        ensures { result ≡ is_day_image self }
+    {
+        match self.state {
+            0 => self.wh == 0 && self.cost == 0,
+            state => state <= 2,
         }
-        i += 1;
     }
-    true
 }
 
 // ---- payments
 
-fn payment_of(p: PaymentImage) -> Payment
-    ensures { result ≡ payment_of p }
-{
-    Payment {
-        day: p.day,
-        amount: p.amount,
-        part: p.part,
-        reversed: p.reversed == 1,
-    }
-}
+impl From<PaymentImage> for Payment {
+    ghost from_gives = { λ i p. p ≡ payment_of i };
 
-fn payment_image(p: Payment) -> PaymentImage
-    ensures { result ≡ payment_image p }
-{
-    PaymentImage {
-        day: p.day,
-        amount: p.amount,
-        part: p.part,
-        reversed: flag(p.reversed),
-    }
-}
-
-fn flag(b: bool) -> u32
-    ensures { result ≡ cond b 1 0 }
-{
-    if b { 1 } else { 0 }
-}
-
-fn payments_of(l: PaymentImages) -> Payments
-    ensures { result ≡ map payment_of l }
-{
-    let mut payments = [Payment {
-        day: 0,
-        amount: 0,
-        part: 0,
-        reversed: false,
-    }; PAYMENTS];
-    let mut i: usize = 0;
-    while i < PAYMENTS {
-        payments[i] = payment_of(l[i]);
-        i += 1;
-    }
-    payments
-}
-
-fn payment_images(l: Payments) -> PaymentImages
-    ensures { result ≡ map payment_image l }
-{
-    let mut images = [PaymentImage {
-        day: 0,
-        amount: 0,
-        part: 0,
-        reversed: 0,
-    }; PAYMENTS];
-    let mut i: usize = 0;
-    while i < PAYMENTS {
-        images[i] = payment_image(l[i]);
-        i += 1;
-    }
-    images
-}
-
-fn are_payment_images(l: PaymentImages) -> bool
-    ensures { result ≡ every is_payment_image l }
-{
-    let mut i: usize = 0;
-    while i < PAYMENTS {
-        let p = l[i];
-        if p.reversed > 1 {
-            return false;
+    #[tactic(auto, unfolding(crate::specs::Image::payment_of))]
+    fn from(image: PaymentImage) -> Payment {
+        Payment {
+            day: image.day,
+            amount: image.amount,
+            part: image.part,
+            reversed: image.reversed == 1,
         }
-        i += 1;
     }
-    true
+}
+
+impl From<Payment> for PaymentImage {
+    ghost from_gives = { λ p i. i ≡ payment_image p };
+
+    #[tactic(auto, unfolding(crate::specs::Image::payment_image))]
+    fn from(payment: Payment) -> PaymentImage {
+        PaymentImage {
+            day: payment.day,
+            amount: payment.amount,
+            part: payment.part,
+            reversed: u32::from(payment.reversed),
+        }
+    }
+}
+
+impl PaymentImage {
+    #[tactic(auto, unfolding(crate::specs::Image::is_payment_image))]
+    fn is_image(self) -> bool
+        ensures { result ≡ is_payment_image self }
+    {
+        self.reversed <= 1
+    }
+}
+
+// ---- totals
+
+impl From<TotalsImage> for Totals {
+    ghost from_gives = { λ i s. s ≡ totals_of i };
+
+    #[tactic(auto, unfolding(crate::specs::Image::totals_of))]
+    fn from(image: TotalsImage) -> Totals {
+        Totals {
+            credit: image.credit,
+            debit: image.debit,
+            plan: image.plan,
+            standing: image.standing,
+            count: image.count,
+            events: image.events,
+            last: image.last,
+            on: image.on == 1,
+        }
+    }
+}
+
+impl From<Totals> for TotalsImage {
+    ghost from_gives = { λ s i. i ≡ totals_image s };
+
+    #[tactic(auto, unfolding(crate::specs::Image::totals_image))]
+    fn from(totals: Totals) -> TotalsImage {
+        TotalsImage {
+            credit: totals.credit,
+            debit: totals.debit,
+            plan: totals.plan,
+            standing: totals.standing,
+            count: totals.count,
+            events: totals.events,
+            last: totals.last,
+            on: u32::from(totals.on),
+        }
+    }
 }
 
 // ---- the record
 
-fn totals_of(s: TotalsImage) -> Totals
-    ensures { result ≡ totals_of s }
-{
-    Totals {
-        credit: s.credit,
-        debit: s.debit,
-        plan: s.plan,
-        standing: s.standing,
-        count: s.count,
-        events: s.events,
-        last: s.last,
-        on: s.on == 1,
+impl Image {
+    // Whether the numbers are the image of a record: no other state of a day, and 0 or 1 where the record has yes or no.
+    fn is_image(&self) -> bool
+        ensures { result ≡ is_image self.now }
+    {
+        self.totals.on <= 1
+            && self.spare == 0
+            && self.days.iter().all(|d| d.is_image())
+            && self.payments.iter().all(|p| p.is_image())
     }
 }
 
-fn totals_image(s: Totals) -> TotalsImage
-    ensures { result ≡ totals_image s }
-{
-    TotalsImage {
-        credit: s.credit,
-        debit: s.debit,
-        plan: s.plan,
-        standing: s.standing,
-        count: s.count,
-        events: s.events,
-        last: s.last,
-        on: flag(s.on),
+// Of any other numbers a record that is no account: every event gets 1.
+impl From<Image> for Account {
+    ghost from_gives = { λ i a. a ≡ account_of i };
+
+    fn from(image: Image) -> Account {
+        if !image.is_image() {
+            return Account::fresh(Terms::default());
+        }
+        let marks = image.marks;
+        let warned = image.warned;
+        let charges = image.charges;
+        let days = image.days.map(|d| Day::from(d));
+        let payments = image.payments.map(|p| Payment::from(p));
+        Account {
+            terms: image.terms,
+            totals: Totals::from(image.totals),
+            days,
+            marks,
+            warned,
+            payments,
+            charges,
+        }
     }
 }
 
-// Whether the numbers are the image of a record: no other state of a day, and 0 or 1 where the record has yes or no.
-fn is_image(i: Image) -> bool
-    ensures { result ≡ is_image i }
-{
-    let s = i.totals;
-    if s.on > 1 {
-        return false;
-    }
-    if i.spare != 0 {
-        return false;
-    }
-    let days = i.days;
-    if !are_day_images(days) {
-        return false;
-    }
-    let payments = i.payments;
-    are_payment_images(payments)
-}
+impl From<Account> for Image {
+    ghost from_gives = { λ a i. i ≡ image_of a };
 
-fn no_terms() -> Terms
-    ensures { result ≡ zero_terms }
-{
-    Terms {
-        opened: Date {
-            year: 0,
-            month: 0,
-            day: 0,
-        },
-        price: 0,
-        connect: 0,
-        cutoff: 0,
-        share: 0,
-    }
-}
-
-// The record of an image; of any other numbers a record that is no account: every event gets 1.
-pub fn account_of(i: Image) -> Account
-    ensures { result ≡ account_of i }
-{
-    if !is_image(i) {
-        let o = account::open(no_terms());
-        return o.account;
-    }
-    let terms = i.terms;
-    let totals = i.totals;
-    let days = i.days;
-    let marks = i.marks;
-    let warned = i.warned;
-    let payments = i.payments;
-    let charges = i.charges;
-    Account {
-        terms,
-        totals: totals_of(totals),
-        days: days_of(days),
-        marks,
-        warned,
-        payments: payments_of(payments),
-        charges,
-    }
-}
-
-// The image of a record.
-pub fn image_of(a: Account) -> Image
-    ensures { result ≡ image_of a }
-{
-    let totals = a.totals;
-    let terms = a.terms;
-    let days = a.days;
-    let marks = a.marks;
-    let warned = a.warned;
-    let payments = a.payments;
-    let charges = a.charges;
-    Image {
-        totals: totals_image(totals),
-        terms,
-        days: day_images(days),
-        marks,
-        warned,
-        payments: payment_images(payments),
-        spare: 0,
-        charges,
+    fn from(account: Account) -> Image {
+        let marks = account.marks;
+        let warned = account.warned;
+        let charges = account.charges;
+        let days = account.days.map(|d| DayImage::from(d));
+        let payments = account.payments.map(|p| PaymentImage::from(p));
+        Image {
+            totals: TotalsImage::from(account.totals),
+            terms: account.terms,
+            days,
+            marks,
+            warned,
+            payments,
+            spare: 0,
+            charges,
+        }
     }
 }
 
@@ -389,10 +265,7 @@ pub fn image_of(a: Account) -> Image
 pub fn image_after(i: Image, a: Account) -> Image
     ensures { result ≡ image_after i a }
 {
-    if !is_image(i) {
-        return i;
-    }
-    image_of(a)
+    if i.is_image() { Image::from(a) } else { i }
 }
 
 // Every record has its image and comes back from it, and an image comes back from its record.
@@ -407,49 +280,46 @@ pub fn calls_agree()
 
 // ---- the calls
 
-// The image of a fresh account of these terms. Where they are outside their limits the code is 1 and every event gets 1.
-pub fn open(t: Terms) -> ImageOpened
-    ensures { result ≡ opened_of t }
+// The image of a fresh account of these terms. Where they are outside their limits it is refused by 1, and so is every event.
+pub fn open(t: Terms) -> Posted<Image>
+    ensures { opening_of result.account result.answer ≡ opened_of t }
 {
-    let o = account::open(t);
-    let a = o.account;
-    ImageOpened {
-        image: image_of(a),
-        code: o.code,
+    let answer = t.is_valid().then_some(0).ok_or(Refusal::Terms);
+    Posted {
+        account: Image::from(Account::fresh(t)),
+        answer,
     }
 }
 
 // One event: the image after it and the answer. A refusal hands the image back as it came in; 1 where the numbers are no image.
-pub fn post(i: Image, e: Event) -> ImagePosted
-    ensures { result ≡ posted_of i e }
+pub fn post(i: Image, e: Event) -> Posted<Image>
+    ensures { posting_of result.account result.answer ≡ posted_of i e }
 {
-    let p = account::step(account_of(i), e);
-    let a = p.account;
-    ImagePosted {
-        image: image_after(i, a),
-        code: p.code,
-        value: p.value,
+    let mut a = Account::from(i);
+    let answer = a.post(e);
+    Posted {
+        account: image_after(i, a),
+        answer,
     }
 }
 
 // Balance, settled amount, unpaid plan, cost of the standing estimates, service: off the totals, of any numbers.
-pub fn readings(i: Image) -> Reading
-    ensures { result ≡ readings_of i }
+pub fn readings(i: &Image) -> Reading
+    ensures { result ≡ readings_of i.now }
 {
-    let t = i.totals;
-    let s = totals_of(t);
+    let totals = Totals::from(i.totals);
     Reading {
-        balance: readings::balance(s),
-        settled: readings::settled(s),
-        plan: readings::plan(s),
-        estimates: readings::estimates(s),
-        service: flag(readings::service(s)) as u64,
+        balance: readings::balance(totals),
+        settled: readings::settled(totals),
+        plan: readings::plan(totals),
+        estimates: readings::estimates(totals),
+        service: u64::from(readings::service(totals)),
     }
 }
 
-// Month m's figures; 1 where the numbers are no image.
-pub fn summary(i: Image, m: u32) -> Summary
-    ensures { result ≡ summary_in i m }
+// Month m's figures; refused by 1 where the numbers are no image.
+pub fn summary(i: Image, m: u32) -> Result<Figures, Refusal>
+    ensures { summary_of result ≡ summary_in i m }
 {
-    months::summary(account_of(i), m)
+    months::summary(&Account::from(i), m)
 }

@@ -1,7 +1,0 @@
-use Rattle.image.proofs.flag.Goals as goal
-
-pub returns-then-b : goal.returns-then-b
-returns-then-b c = simp c.if-b.true
-
-pub returns-else-b : goal.returns-else-b
-returns-else-b c = simp c.if-b.false
