@@ -1,6 +1,6 @@
 -- The Gregorian calendar, from its rules alone (document 01, "Opening terms").
 use Rattle.std.specs.Prelude.{ℕ, zero, suc, ◌+◌, ◌*◌, ◌-◌, ◌/◌, ◌%◌, ◌≤◌, ◌<◌, ◌≡◌, Bool, true, false, cond, not, ◌&&◌, ◌||◌, [], ◌∷◌, ◌↔◌, get_or, ltb, leb, eqb, Option, Some, None}
-use Rattle.core.specs.declared.iter.ranges.Range.{Range}
+use Rattle.std.specs.declared.ops.Range.{Range}
 use Rattle.calendar.specs.declared.Date.{Date}
 use Rattle.calendar.specs.declared.Weekday.{Weekday}
 use Rattle.calendar.specs.declared.Weekday.TheVariants.{Monday, Tuesday, Wednesday, Thursday, Friday, Saturday, Sunday}

@@ -274,9 +274,8 @@ pub fn date_of(opened: Date, k: u32) -> Option<Date>
     if !can_open(opened) || k > FINAL_DAY {
         return None;
     }
-    let days = days_before(leap(opened.year), opened.month) + (opened.day - 1) + k;
     let mut year = opened.year;
-    let mut left = days;
+    let mut left = days_before(leap(year), opened.month) + (opened.day - 1) + k;
     while left >= year_length(year) {
         left -= year_length(year);
         year += 1;
@@ -318,9 +317,8 @@ fn month_start(opened: Date, m: u32) -> u32
     requires { (opens opened ≡ true) × (m ≤ month_count) }
     ensures { result ≡ month_start opened m }
 {
-    let first = days_after(opened);
     month_after(months_after(opened) + m)
-        .saturating_sub(first)
+        .saturating_sub(days_after(opened))
         .min(DAY_COUNT)
 }
 

@@ -4,7 +4,7 @@ use Prim.Native.Nat.{ℕ, ◌+◌}
 use lib.Dec.{leb}
 use borrow.Author.Tests.{leb-true, leb-false}
 use native.Mathlib.Omega.{arith}
-use Rattle.core.specs.Bool.{then_some}
+use Rattle.std.specs.Bool.{then_some}
 use Rattle.calendar.specs.Calendar.{is_in_reach, opens, is_day, date_on, days_after, DayAnswer}
 use Rattle.calendar.specs.declared.Date.{Date}
 use Rattle.calendar.proofs.Sums.{decide}

@@ -5,7 +5,7 @@ use Prim.Native.Nat.{ℕ, suc, ◌+◌, ◌≤◌, ◌<◌}
 use lib.Dec.{ltb}
 use borrow.Author.Tests.{ltb-true, ltb-false}
 use native.Mathlib.Omega.{arith}
-use Rattle.core.specs.Bool.{then_some}
+use Rattle.std.specs.Bool.{then_some}
 use Rattle.calendar.specs.Calendar.{opens, is_day, date_on, month_from, months_after, MonthAnswer}
 use Rattle.calendar.specs.Work.{month_start}
 use Rattle.calendar.specs.declared.Date.{Date}
