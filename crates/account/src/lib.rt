@@ -96,10 +96,9 @@ pub struct Posted<R> {
 }
 
 // One event, by value.
-pub fn step(a: Account, e: Event) -> Posted<Account>
-    ensures { stepped_of result.account result.answer ≡ step_of a e }
+pub fn step(mut account: Account, e: Event) -> Posted<Account>
+    ensures { stepped_of result.account result.answer ≡ step_of account e }
 {
-    let mut account = a;
     let answer = account.post(e);
     Posted { account, answer }
 }

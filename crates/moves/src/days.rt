@@ -6,70 +6,72 @@ use super::guard::Checked;
 use super::{Day, Move, Totals, Usage};
 use ledger::Refusal;
 
-#[tactic(auto, using(crate::proofs::Early::early, crate::proofs::Early::estimate_cost), unfolding(crate::specs::Moves::estimate_of, crate::specs::Moves::estimated_of))]
-pub(crate) fn estimate(checked: Checked) -> Result<Move, Refusal>
-    requires { checked.event.sort ≡ 5 }
-    ensures { moved_of (accepted checked.before) result ≡ estimate_of checked.terms (accepted checked.before) checked.event }
-{
-    let before = checked.before;
-    let e = checked.event;
-    if e.usage >= e.day {
-        return Err(Refusal::UsageDay);
-    }
-    if before.day.usage != Usage::Blank {
-        return Err(Refusal::UsageState);
-    }
-    let cost = tariff::cost(e.wh, checked.terms.price);
-    let s = before.totals.tallied(e.day);
-    Ok(Move {
-        value: cost,
-        totals: Totals {
-            debit: s.debit + cost,
-            standing: s.standing + cost,
-            ..s
-        },
-        day: Day {
-            usage: Usage::Estimated {
-                wh: e.wh,
-                cost: cost as u32,
+impl Checked {
+    #[tactic(auto, using(crate::proofs::Early::early, crate::proofs::Early::estimate_cost), unfolding(crate::specs::Moves::estimate_of, crate::specs::Moves::estimated_of))]
+    pub(crate) fn estimate(self) -> Result<Move, Refusal>
+        requires { self.event.sort ≡ 5 }
+        ensures { moved_of (accepted self.before) result ≡ estimate_of self.terms (accepted self.before) self.event }
+    {
+        let before = self.before;
+        let e = self.event;
+        if e.usage >= e.day {
+            return Err(Refusal::UsageDay);
+        }
+        if before.day.usage != Usage::Blank {
+            return Err(Refusal::UsageState);
+        }
+        let cost = tariff::cost(e.wh, self.terms.price);
+        let s = before.totals.tallied(e.day);
+        Ok(Move {
+            value: cost,
+            totals: Totals {
+                debit: s.debit + cost,
+                standing: s.standing + cost,
+                ..s
             },
-        },
-        ..before
-    })
-}
+            day: Day {
+                usage: Usage::Estimated {
+                    wh: e.wh,
+                    cost: cost as u32,
+                },
+            },
+            ..before
+        })
+    }
 
-#[tactic(auto, using(crate::proofs::Early::early, crate::proofs::Early::read_cost), unfolding(crate::specs::Moves::read_of, crate::specs::Moves::metered_of))]
-pub(crate) fn read(checked: Checked) -> Result<Move, Refusal>
-    requires { checked.event.sort ≡ 6 }
-    ensures { moved_of (accepted checked.before) result ≡ read_of checked.terms (accepted checked.before) checked.event }
-{
-    let before = checked.before;
-    let e = checked.event;
-    if e.usage >= e.day {
-        return Err(Refusal::UsageDay);
-    }
-    // the cost of the estimate that the read takes back
-    let old = match before.day.usage {
-        Usage::Blank => 0,
-        Usage::Estimated { wh: _, cost } => cost as u64,
-        Usage::Metered { wh: _, cost: _ } => return Err(Refusal::UsageState),
-    };
-    let cost = tariff::cost(e.wh, checked.terms.price);
-    let s = before.totals.tallied(e.day);
-    Ok(Move {
-        value: cost,
-        totals: Totals {
-            credit: s.credit + old,
-            debit: s.debit + cost,
-            standing: s.standing.saturating_sub(old),
-            ..s
-        },
-        day: Day {
-            usage: Usage::Metered {
-                wh: e.wh,
-                cost: cost as u32,
+    #[tactic(auto, using(crate::proofs::Early::early, crate::proofs::Early::read_cost), unfolding(crate::specs::Moves::read_of, crate::specs::Moves::metered_of))]
+    pub(crate) fn read(self) -> Result<Move, Refusal>
+        requires { self.event.sort ≡ 6 }
+        ensures { moved_of (accepted self.before) result ≡ read_of self.terms (accepted self.before) self.event }
+    {
+        let before = self.before;
+        let e = self.event;
+        if e.usage >= e.day {
+            return Err(Refusal::UsageDay);
+        }
+        // the cost of the estimate that the read takes back
+        let old = match before.day.usage {
+            Usage::Blank => 0,
+            Usage::Estimated { wh: _, cost } => cost as u64,
+            Usage::Metered { wh: _, cost: _ } => return Err(Refusal::UsageState),
+        };
+        let cost = tariff::cost(e.wh, self.terms.price);
+        let s = before.totals.tallied(e.day);
+        Ok(Move {
+            value: cost,
+            totals: Totals {
+                credit: s.credit + old,
+                debit: s.debit + cost,
+                standing: s.standing.saturating_sub(old),
+                ..s
             },
-        },
-        ..before
-    })
+            day: Day {
+                usage: Usage::Metered {
+                    wh: e.wh,
+                    cost: cost as u32,
+                },
+            },
+            ..before
+        })
+    }
 }

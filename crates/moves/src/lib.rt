@@ -120,32 +120,6 @@ pub fn is_account(t: Terms, s: Totals) -> bool
         && s.count <= MAX_PAYMENTS
 }
 
-// The move of an event that passed the checks of every event, by its sort.
-#[tactic(auto, unfolding(crate::specs::Moves::by_sort))]
-fn by_sort<'a>(
-    checked: Checked,
-    charges: &'a Charges,
-    marks: &'a DayBytes,
-    warned: &'a DayBytes,
-) -> Result<Move, Refusal>
-    ensures { moved_of (accepted checked.before) result ≡ by_sort checked.terms (accepted checked.before) charges.now marks.now warned.now checked.event checked.event.sort }
-{
-    match checked.event.sort {
-        1 => payments::pay(checked),
-        2 => payments::reverse(checked),
-        3 => payments::credit(checked),
-        4 => charges::charge(checked, charges),
-        5 => days::estimate(checked),
-        6 => days::read(checked),
-        7 => service::warn(checked),
-        8 => service::mark(checked),
-        9 => service::plan(checked, marks),
-        10 => service::disconnect(checked, marks, warned),
-        11 => service::connect(checked),
-        0 | 12..=4294967295 => Err(Refusal::Limits),
-    }
-}
-
 // What of an account an event may read: the terms, the totals, the payment at its number, its usage day, and the charges, marks and warnings.
 #[derive(Clone, Copy)]
 pub struct Cells<'a> {
@@ -156,6 +130,31 @@ pub struct Cells<'a> {
     pub charges: &'a Charges,
     pub marks: &'a DayBytes,
     pub warned: &'a DayBytes,
+}
+
+impl Checked {
+    // The move of the event by its sort.
+    #[tactic(auto, unfolding(crate::specs::Moves::by_sort))]
+    fn by_sort(self, cells: Cells) -> Result<Move, Refusal>
+        ensures { let c = cells.entry in
+            moved_of (accepted self.before) result
+            ≡ by_sort self.terms (accepted self.before) c.charges.now c.marks.now c.warned.now self.event self.event.sort }
+    {
+        match self.event.sort {
+            1 => self.pay(),
+            2 => self.reverse(),
+            3 => self.credit(),
+            4 => self.charge(cells.charges),
+            5 => self.estimate(),
+            6 => self.read(),
+            7 => self.warn(),
+            8 => self.mark(),
+            9 => self.plan(cells.marks),
+            10 => self.disconnect(cells.marks, cells.warned),
+            11 => self.connect(),
+            0 | 12..=4294967295 => Err(Refusal::Limits),
+        }
+    }
 }
 
 // The move of an event over the cells, or its refusal. A number past the payments, or a day past the account's, is looked at by its remainder:
@@ -177,5 +176,5 @@ pub fn move_of(cells: Cells, e: Event) -> Result<Move, Refusal>
         mark: None,
     };
     let checked = Checked::new(cells.terms, before, e)?;
-    by_sort(checked, cells.charges, cells.marks, cells.warned)
+    checked.by_sort(cells)
 }

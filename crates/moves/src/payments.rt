@@ -15,76 +15,77 @@ fn plan_part(plan: u64, amount: u32, share: u32) -> u32
     plan.min(amount as u64 * share as u64 / 100) as u32
 }
 
-#[tactic(auto, using(crate::proofs::Early::early), unfolding(crate::specs::Moves::pay_of))]
-pub(crate) fn pay(checked: Checked) -> Result<Move, Refusal>
-    requires { checked.event.sort ≡ 1 }
-    ensures { moved_of (accepted checked.before) result ≡ pay_of checked.terms (accepted checked.before) checked.event }
-{
-    let before = checked.before;
-    let e = checked.event;
-    let number = before.totals.count;
-    if number >= MAX_PAYMENTS {
-        return Err(Refusal::Payments);
+impl Checked {
+    #[tactic(auto, using(crate::proofs::Early::early), unfolding(crate::specs::Moves::pay_of))]
+    pub(crate) fn pay(self) -> Result<Move, Refusal>
+        ensures { moved_of (accepted self.before) result ≡ pay_of self.terms (accepted self.before) self.event }
+    {
+        let before = self.before;
+        let e = self.event;
+        let number = before.totals.count;
+        if number >= MAX_PAYMENTS {
+            return Err(Refusal::Payments);
+        }
+        let s = before.totals.tallied(e.day);
+        let part = plan_part(s.plan, e.amount, self.terms.share);
+        Ok(Move {
+            value: number as u64,
+            totals: Totals {
+                credit: s.credit + (e.amount - part) as u64,
+                plan: s.plan - part as u64,
+                count: number + 1,
+                ..s
+            },
+            number,
+            payment: Payment {
+                day: e.day,
+                amount: e.amount,
+                part,
+                reversed: false,
+            },
+            ..before
+        })
     }
-    let s = before.totals.tallied(e.day);
-    let part = plan_part(s.plan, e.amount, checked.terms.share);
-    Ok(Move {
-        value: number as u64,
-        totals: Totals {
-            credit: s.credit + (e.amount - part) as u64,
-            plan: s.plan - part as u64,
-            count: number + 1,
-            ..s
-        },
-        number,
-        payment: Payment {
-            day: e.day,
-            amount: e.amount,
-            part,
-            reversed: false,
-        },
-        ..before
-    })
-}
 
-#[tactic(auto, using(crate::proofs::Early::early), unfolding(crate::specs::Moves::reverse_of))]
-pub(crate) fn reverse(checked: Checked) -> Result<Move, Refusal>
-    ensures { moved_of (accepted checked.before) result ≡ reverse_of checked.terms (accepted checked.before) checked.event }
-{
-    let before = checked.before;
-    let e = checked.event;
-    let payment = before.payment;
-    if e.number >= before.totals.count || payment.reversed {
-        return Err(Refusal::Payment);
+    #[tactic(auto, using(crate::proofs::Early::early), unfolding(crate::specs::Moves::reverse_of))]
+    pub(crate) fn reverse(self) -> Result<Move, Refusal>
+        ensures { moved_of (accepted self.before) result ≡ reverse_of self.terms (accepted self.before) self.event }
+    {
+        let before = self.before;
+        let e = self.event;
+        let payment = before.payment;
+        if e.number >= before.totals.count || payment.reversed {
+            return Err(Refusal::Payment);
+        }
+        let s = before.totals.tallied(e.day);
+        Ok(Move {
+            value: 0,
+            totals: Totals {
+                debit: s.debit + payment.amount.saturating_sub(payment.part) as u64,
+                plan: s.plan + payment.part as u64,
+                ..s
+            },
+            payment: Payment {
+                reversed: true,
+                ..payment
+            },
+            ..before
+        })
     }
-    let s = before.totals.tallied(e.day);
-    Ok(Move {
-        value: 0,
-        totals: Totals {
-            debit: s.debit + payment.amount.saturating_sub(payment.part) as u64,
-            plan: s.plan + payment.part as u64,
-            ..s
-        },
-        payment: Payment {
-            reversed: true,
-            ..payment
-        },
-        ..before
-    })
-}
 
-#[tactic(auto, using(crate::proofs::Early::early), unfolding(crate::specs::Moves::credit_of))]
-pub(crate) fn credit(checked: Checked) -> Result<Move, Refusal>
-    ensures { moved_of (accepted checked.before) result ≡ credit_of checked.terms (accepted checked.before) checked.event }
-{
-    let e = checked.event;
-    let s = checked.before.totals.tallied(e.day);
-    Ok(Move {
-        value: 0,
-        totals: Totals {
-            credit: s.credit + e.amount as u64,
-            ..s
-        },
-        ..checked.before
-    })
+    #[tactic(auto, using(crate::proofs::Early::early), unfolding(crate::specs::Moves::credit_of))]
+    pub(crate) fn credit(self) -> Result<Move, Refusal>
+        ensures { moved_of (accepted self.before) result ≡ credit_of self.terms (accepted self.before) self.event }
+    {
+        let e = self.event;
+        let s = self.before.totals.tallied(e.day);
+        Ok(Move {
+            value: 0,
+            totals: Totals {
+                credit: s.credit + e.amount as u64,
+                ..s
+            },
+            ..self.before
+        })
+    }
 }
