@@ -127,10 +127,6 @@ weekday_is t s e h =
 
 -- ---- the event's fields, by its sort
 
--- the sort is one of the sorts
-pub no_other : (e : Event) → in_limits e ≡ true → sorts.NoSort e.sort → ⊥
-no_other e h s = false≢true (sym (sorts.no-sort e s) ∙ h)
-
 pub record Between (low high n : ℕ) : Type 0 where
   pub least : low ≤ n
   pub most : n ≤ high
