@@ -6,7 +6,7 @@
 
 ghost use Rattle.std.specs.Prelude.{◌≡◌};
 ghost use Rattle.scanner.specs.Scanner.{IsRead, IsValueRead, read_value, read_number, read_date};
-ghost use Rattle.scanner.specs.Values.{digit_of, two_digits_of, number_of, date_of};
+ghost use Rattle.scanner.specs.Values.{digit_of, decimal, number_of, two_digits_of, date_of};
 
 use calendar::Date;
 
@@ -32,20 +32,29 @@ fn digit(byte: u8) -> Option<u32>
     }
 }
 
-// "digits without sign or leading zero, zero being `0`, at most 4,294,967,295": those that a `u32` holds.
-fn number_of(value: &[u8]) -> Option<u32>
-    ensures { result ≡ number_of value.now }
+// The number that some digits make, none where it is above 4,294,967,295.
+fn decimal(digits: &[u8]) -> Option<u32>
+    ensures { result ≡ decimal digits.now }
 {
-    if let [] | [b'0', _, ..] = value {
-        return None;
-    }
     let mut number: u32 = 0;
-    for byte in value {
+    for byte in digits {
         number = number.checked_mul(10)?.checked_add(digit(*byte)?)?;
     }
     Some(number)
 }
 
+// "digits without sign or leading zero, zero being `0`"
+#[tactic(auto, unfolding(crate::specs::Values::number_of, crate::specs::Values::decimal, crate::specs::Scanner::is_number))]
+fn number_of(value: &[u8]) -> Option<u32>
+    ensures { result ≡ number_of value.now }
+{
+    match value {
+        [] | [b'0', _, ..] => None,
+        _ => decimal(value),
+    }
+}
+
+#[tactic(auto, unfolding(crate::specs::Scanner::read_number, crate::specs::Values::number_of))]
 pub fn read_number<'a>(text: &'a [u8], key: &[u8]) -> Option<(u32, &'a [u8])>
     ensures { IsRead (read_number key.now text.now) result }
 {
@@ -63,6 +72,7 @@ fn two_digits(tens: u8, units: u8) -> Option<u32>
 }
 
 // "Dates are YYYY-MM-DD": any digits.
+#[tactic(auto, unfolding(crate::specs::Values::date_of, crate::specs::Scanner::is_date_form, crate::specs::Scanner::date_value))]
 fn date_of(value: &[u8]) -> Option<Date>
     ensures { result ≡ date_of value.now }
 {
@@ -77,6 +87,7 @@ fn date_of(value: &[u8]) -> Option<Date>
     Some(Date { year, month, day })
 }
 
+#[tactic(auto, unfolding(crate::specs::Scanner::read_date, crate::specs::Values::date_of))]
 pub fn read_date<'a>(text: &'a [u8], key: &[u8]) -> Option<(Date, &'a [u8])>
     ensures { IsRead (read_date key.now text.now) result }
 {

@@ -17,6 +17,7 @@ pub const MAX_TEXT: usize = 65536;
 
 // ---- the terms
 
+#[tactic(auto, unfolding(crate::specs::Text::read_terms))]
 pub fn read_terms(text: &[u8]) -> Option<(Terms, &[u8])>
     ensures { IsRead (read_terms text.now) result }
 {
@@ -38,6 +39,7 @@ pub fn read_terms(text: &[u8]) -> Option<(Terms, &[u8])>
 // ---- the sort of an event
 
 // The sort that a word names.
+#[tactic(auto, using(crate::proofs::Words::long_words), unfolding(crate::specs::Words::sort_of, crate::specs::Text::sort_in, scanner::specs::Scanner::same))]
 fn sort_of(word: &[u8]) -> Option<u32>
     ensures { result ≡ sort_of word.now }
 {
@@ -57,6 +59,7 @@ fn sort_of(word: &[u8]) -> Option<u32>
     }
 }
 
+#[tactic(auto, unfolding(crate::specs::Words::sort_of, crate::specs::Text::read_sort))]
 fn read_sort(text: &[u8]) -> Option<(u32, &[u8])>
     ensures { IsRead (read_sort text.now) result }
 {
@@ -67,6 +70,7 @@ fn read_sort(text: &[u8]) -> Option<(u32, &[u8])>
 // ---- an event
 
 // The event with the fields that its sort names.
+#[tactic(auto, unfolding(crate::specs::Text::read_fields))]
 fn read_fields(text: &[u8], event: Event) -> Option<(Event, &[u8])>
     ensures { IsRead (read_fields (fields_in sorts event.sort) event text.now) result }
 {
@@ -119,6 +123,7 @@ fn read_fields(text: &[u8], event: Event) -> Option<(Event, &[u8])>
 }
 
 // The shortest event, `day=0` and `do=warn`, has 14 bytes.
+#[tactic(auto, unfolding(crate::specs::Text::read_event))]
 pub fn read_event(text: &[u8]) -> Option<(Event, &[u8])>
     ensures read { IsRead (read_event text.now) result }
     ensures shorter { IfSome result (λ p. length p.1.now + 14 ≤ length text.now) }

@@ -1,0 +1,107 @@
+-- What is read is taken from the front of the text, and the rest is its end: for those who cite specs/Scanner.antt. Assumes nothing.
+use Rattle.std.proofs.Common.{◌≡◌, ℕ, suc, ◌+◌, ◌-◌, ◌≤◌, Bool, true, false, cond, leb, eqb, List, [], ◌∷◌, ◌++◌, length, drop, length-append, length-drop, refl, arith}
+use borrow.Author.Tests.{leb-true}
+use Rattle.std.proofs.lemmas.List.{drop-drop}
+use Rattle.calendar.proofs.Sums.{and_left}
+use Rattle.scanner.specs.Scanner.{bytes, Read, got, broken, then, feed, read_line, after_prefix, read_value, is_number, value_from, read_number, is_date_form, date_value, read_date}
+
+-- what follows a place that is at least n bytes on
+pub record IsRest (n : ℕ) (s r : List ℕ) : Type 0 where
+  pub at : ℕ
+  pub least : n ≤ at
+  pub within : at ≤ length s
+  pub is : r ≡ drop at s
+
+pub rest-shorter : {n : ℕ} {s r : List ℕ} → IsRest n s r → length r + n ≤ length s
+rest-shorter h = rw h.is (simp length-drop (let l = h.least in let w = h.within in omega arith))
+
+pub rest-is : {n : ℕ} {s r : List ℕ} → IsRest n s r → r ≡ drop (length s - length r) s
+rest-is {n} {s} {r} h =
+    let e : length r ≡ length s - h.at = rw h.is (length-drop h.at s) in
+    let w = h.within in
+    let f : length s - length r ≡ h.at = omega arith in
+    rw f h.is
+
+pub rest-then : {n m k : ℕ} {s r q : List ℕ} → IsRest n s r → IsRest m r q → k ≤ n + m → IsRest k s q
+rest-then {n} {m} {k} {s} {r} {q} h g l =
+    let e : length r ≡ length s - h.at = rw h.is (length-drop h.at s) in
+    let a = h.least in let b = h.within in let c = g.least in let d = g.within in
+    record { at = h.at + g.at; least = omega arith; within = omega arith; is = rw (g.is, h.is) (drop-drop g.at h.at s) }
+
+pub rest-fewer : {n m : ℕ} {s r : List ℕ} → IsRest n s r → m ≤ n → IsRest m s r
+rest-fewer h l = let a = h.least in record { at = h.at; least = omega arith; within = h.within; is = h.is }
+
+-- of what is read at least n bytes are taken, by what it is
+abbrev pub Taken : {A : Type 0} → (A → ℕ) → List ℕ → Read A → Type 0
+Taken n s (got a r) = IsRest (n a) s r
+Taken n s broken = Unit
+
+module _ {B : Type 0} (k : B → ℕ) (s : List ℕ) where
+  pub tested-taken : (t : Bool) (b : B) (r : List ℕ) → (t ≡ true → IsRest (k b) s r) → Taken k s (cond t (got b r) broken)
+  tested-taken true b r h = h refl
+  tested-taken false b r h = tt
+
+  pub rest-taken : {n : ℕ} (m : B → ℕ) {r : List ℕ} (x : Read B) → IsRest n s r → Taken m r x → ((b : B) → k b ≤ n + m b) → Taken k s x
+  rest-taken m (got b q) h g l = rest-then h g (l b)
+  rest-taken m broken h g l = tt
+
+  pub then-taken : {A : Type 0} (n : A → ℕ) (x : Read A) (f : A → List ℕ → Read B) → Taken n s x → ((a : A) (r : List ℕ) → IsRest (n a) s r → Taken k s (f a r)) → Taken k s (then x f)
+  then-taken n (got a r) f h g = g a r h
+  then-taken n broken f h g = tt
+
+-- ---- a line and its value
+
+line-turn : (b : ℕ) (s : List ℕ) (t : Bool) (x : Read (List ℕ)) → Taken (λ l. length l + 1) s x
+    → Taken (λ l. length l + 1) (b ∷ s) (cond t (got [] s) (then x (λ (l r : List ℕ). got (b ∷ l) r)))
+line-turn b s true x h = record { at = 1; least = omega arith; within = omega arith; is = refl }
+line-turn b s false (got l r) h =
+    let e = h.least in let w = h.within in
+    record { at = suc h.at; least = omega arith; within = omega arith; is = h.is }
+line-turn b s false broken h = tt
+
+line-taken : (s : List ℕ) → Taken (λ l. length l + 1) s (read_line s)
+unfolding read_line
+line-taken [] = tt
+line-taken (b ∷ s) = line-turn b s (eqb b feed) (read_line s) (line-taken s)
+
+-- what follows the prefix
+abbrev After : List ℕ → List ℕ → Read (List ℕ) → Type 0
+After p s (got r none) = IsRest (length p) s r
+After p s broken = Unit
+
+prefix-turn : (c b : ℕ) (p s : List ℕ) (t : Bool) (x : Read (List ℕ)) → After p s x → After (c ∷ p) (b ∷ s) (cond t x broken)
+prefix-turn c b p s true (got r none) h =
+    let e = h.least in let w = h.within in
+    record { at = suc h.at; least = omega arith; within = omega arith; is = h.is }
+prefix-turn c b p s true broken h = tt
+prefix-turn c b p s false x h = tt
+
+after_taken : (p s : List ℕ) → After p s (after_prefix p s)
+unfolding after_prefix
+after_taken [] s = record { at = 0; least = omega arith; within = omega arith; is = refl }
+after_taken (c ∷ p) [] = tt
+after_taken (c ∷ p) (b ∷ s) = prefix-turn c b p s (eqb c b) (after_prefix p s) (after_taken p s)
+
+module _ (key s : List ℕ) where
+  value-of : (x : Read (List ℕ)) → After (key ++ bytes "=") s x → Taken (λ v. length v + (length key + 2)) s (then x (λ (r none : List ℕ). read_line r))
+  value-of (got r none) h = rest-taken _ s _ (read_line r) h (line-taken r) (λ l. simp length-append (omega arith))
+  value-of broken h = tt
+
+  pub value-taken : Taken (λ v. length v + (length key + 2)) s (read_value key s)
+  unfolding read_value
+  value-taken = value-of (after_prefix (key ++ bytes "=") s) (after_taken (key ++ bytes "=") s)
+
+  -- a number has a digit
+  pub number-taken : Taken (λ n. length key + 3) s (read_number key s)
+  unfolding read_number is_number
+  number-taken =
+      then-taken _ s _ (read_value key s) _ value-taken (λ v r h.
+      tested-taken _ s (is_number v) (value_from 0 v) r (λ t.
+      let l = leb-true 1 (length v) (and_left (leb 1 (length v)) _ t) in
+      rest-fewer h (omega arith)))
+
+  pub date-taken : Taken (λ d. length key + 2) s (read_date key s)
+  unfolding read_date
+  date-taken =
+      then-taken _ s _ (read_value key s) _ value-taken (λ v r h.
+      tested-taken _ s (is_date_form v) (date_value v) r (λ t. rest-fewer h (omega arith)))
