@@ -6,6 +6,7 @@ use mathlib.Core.Bool.{Bool, true, false, cond, ◌&&◌}
 use mathlib.Core.List.{List, [], ◌∷◌, map}
 use lib.Dec.{leb, eqb, eqb-suc-zero}
 use borrow.Author.Tests.{eqb-true, leb-true}
+use Rattle.std.specs.List.{list_all}
 use Rattle.ledger.proofs.Cases.{both}
 use Rattle.moves.proofs.Ways.{yes}
 use Rattle.moves.specs.declared.Usage.{Usage}
@@ -14,7 +15,7 @@ use Rattle.account.specs.declared.Account.{Account}
 use Rattle.image.specs.declared.DayImage.{DayImage}
 use Rattle.image.specs.declared.TotalsImage.{TotalsImage}
 use Rattle.image.specs.declared.Image.{Image}
-use Rattle.image.specs.Image.{usage_image, usage_of, is_day_image, day_image, day_of, is_payment_image, payment_image, payment_of, totals_image, totals_of, every, is_image, account_of, image_of, Inverse}
+use Rattle.image.specs.Image.{usage_image, usage_of, is_day_image, day_image, day_of, is_payment_image, payment_image, payment_of, totals_image, totals_of, is_image, account_of, image_of, Inverse}
 
 -- f makes images, those p passes, and g goes back
 pub record Pair {A B : Type 0} (p : B → Bool) (f : A → B) (g : B → A) : Type 0 where
@@ -24,8 +25,7 @@ pub record Pair {A B : Type 0} (p : B → Bool) (f : A → B) (g : B → A) : Ty
 
 -- such a pair goes through a list
 module _ {A B : Type 0} (p : B → Bool) (f : A → B) (g : B → A) (h : Pair p f g) where
-  all-images : (l : List A) → every p (map f l) ≡ true
-  unfolding every
+  all-images : (l : List A) → list_all p (map f l) ≡ true
   all-images [] = refl
   all-images (x ∷ l) = rw (h.image x) (all-images l)
 
@@ -33,12 +33,11 @@ module _ {A B : Type 0} (p : B → Bool) (f : A → B) (g : B → A) (h : Pair p
   all_back [] = refl
   all_back (x ∷ l) = λ k. h.back x k ∷ all_back l k
 
-  all-forth : (l : List B) → every p l ≡ true → map f (map g l) ≡ l
-  unfolding every
+  all-forth : (l : List B) → list_all p l ≡ true → map f (map g l) ≡ l
   all-forth [] e = refl
-  all-forth (y ∷ l) e = let b = both (p y) (every p l) e in λ k. h.forth y b.0 k ∷ all-forth l b.1 k
+  all-forth (y ∷ l) e = let b = both (p y) (list_all p l) e in λ k. h.forth y b.0 k ∷ all-forth l b.1 k
 
-  lists : Pair (every p) (map f) (map g)
+  lists : Pair (list_all p) (map f) (map g)
   lists = record { image = all-images; back = all_back; forth = all-forth }
 
 -- ---- yes or no
@@ -107,10 +106,10 @@ totals-pair = record {
 
 -- ---- the record
 
-days : Pair (every is_day_image) (map day_image) (map day_of)
+days : Pair (list_all is_day_image) (map day_image) (map day_of)
 days = lists is_day_image day_image day_of day-pair
 
-payments : Pair (every is_payment_image) (map payment_image) (map payment_of)
+payments : Pair (list_all is_payment_image) (map payment_image) (map payment_of)
 payments = lists is_payment_image payment_image payment_of payment-pair
 
 image-is : (a : Account) → is_image (image_of a) ≡ true
@@ -134,9 +133,9 @@ record-back a =
 image-back : (i : Image) → is_image i ≡ true → image_of (account_of i) ≡ i
 unfolding is_image image_of
 image-back i h =
-    let b = both (leb i.totals.on 1) (eqb i.spare 0 && (every is_day_image i.days && every is_payment_image i.payments)) h in
-    let z = both (eqb i.spare 0) (every is_day_image i.days && every is_payment_image i.payments) b.1 in
-    let d = both (every is_day_image i.days) (every is_payment_image i.payments) z.1 in
+    let b = both (leb i.totals.on 1) (eqb i.spare 0 && (list_all is_day_image i.days && list_all is_payment_image i.payments)) h in
+    let z = both (eqb i.spare 0) (list_all is_day_image i.days && list_all is_payment_image i.payments) b.1 in
+    let d = both (list_all is_day_image i.days) (list_all is_payment_image i.payments) z.1 in
     ap image_of (account-is i h)
     ∙ (λ k. record { totals = totals-pair.forth i.totals b.0 k; terms = i.terms; days = days.forth i.days d.0 k; marks = i.marks; warned = i.warned; payments = payments.forth i.payments d.1 k; spare = sym (eqb-true i.spare 0 z.0) k; charges = i.charges })
 

@@ -1,5 +1,6 @@
 -- The account record as numbers alone, and the calls over it, by the record's own.
-use Rattle.std.specs.Prelude.{ℕ, ◌≡◌, Bool, true, false, cond, ◌&&◌, List, [], ◌∷◌, map, leb, eqb, Result}
+use Rattle.std.specs.Prelude.{ℕ, ◌≡◌, Bool, true, false, cond, ◌&&◌, List, map, leb, eqb, Result}
+use Rattle.std.specs.List.{list_all}
 use Rattle.terms.specs.Terms.{zero_terms}
 use Rattle.terms.specs.declared.Terms.{Terms}
 use Rattle.terms.specs.Terms.{terms_code}
@@ -79,13 +80,9 @@ totals_of s = record {
 
 -- ---- the record
 
-unfoldable pub every : {A : Type 0} → (A → Bool) → List A → Bool
-every f [] = true
-every f (x ∷ l) = f x && every f l
-
 -- the numbers are the image of a record
 unfoldable pub is_image : Image → Bool
-is_image i = leb i.totals.on 1 && (eqb i.spare 0 && (every is_day_image i.days && every is_payment_image i.payments))
+is_image i = leb i.totals.on 1 && (eqb i.spare 0 && (list_all is_day_image i.days && list_all is_payment_image i.payments))
 
 unfoldable pub image_of : Account → Image
 image_of a = record {
