@@ -17,15 +17,16 @@ use lib.IntN.{ℤ}
 use denote.Bor.{Bor}
 use denote.MutBor.{MutBor}
 use denote.Triple.Clauses.{at_exit}
+use Rattle.std.specs.Prelude.{Result, Ok}
 use Rattle.terms.specs.declared.Terms.{Terms}
 use Rattle.ledger.specs.declared.Event.{Event}
-use Rattle.ledger.specs.declared.Answer.{Answer}
+use Rattle.ledger.specs.declared.Refusal.{Refusal}
+use Rattle.ledger.specs.Refusals.{code_of, answer_of}
 use Rattle.ledger.specs.Ledger.{opening}
 use Rattle.ledger.specs.Calls.{Call, single, row, Back, answered, written}
 use Rattle.moves.specs.declared.Totals.{Totals}
 use Rattle.account.specs.Step.{IsOpened}
 use Rattle.account.specs.declared.Account.{Account}
-use Rattle.account.specs.declared.Opened.{Opened}
 use Rattle.account.specs.contracts.open as open-call
 use Rattle.posting.specs.Posting.{Posts, PostsRow}
 use Rattle.posting.specs.contracts.post as post
@@ -44,14 +45,14 @@ module _ {M : Type 1} {𝓤 : Ura M} (𝓛 : Logic 𝓤) (at_mem : Memory → SP
   -- ---- what the compiled contracts say: of what a call leaves and answers
 
   -- `post`, of a reference to the account, at whatever lifetime: of the account b that it leaves and the answer n
-  abbrev PostSays : Lfts 1 → MutBor Account → Event → Account → Answer → SProp 𝓤
+  abbrev PostSays : Lfts 1 → MutBor Account → Event → Account → Result ℕ Refusal → SProp 𝓤
   PostSays κs a e b n = (post.clauses 𝓛 at_mem run κs (a, (e, tt))).ensures tt n (at_exit post.ended κs (a, (e, tt)) (b, (tt, tt)))
 
   -- `post_row`, of references to the account, the row and the buffer
-  abbrev RowSays : Lfts 3 → MutBor Account → Bor (List Event) → MutBor (List ℕ) → Account → List ℕ → ℕ → SProp 𝓤
+  abbrev RowSays : Lfts 3 → MutBor Account → Bor (List Event) → MutBor (List ℕ) → Account → List ℕ → Result Unit Refusal → SProp 𝓤
   RowSays κs a es buffer b bytes n = (row-call.clauses 𝓛 at_mem run κs (a, (es, (buffer, tt)))).ensures tt n (at_exit row-call.ended κs (a, (es, (buffer, tt))) (b, (tt, (bytes, tt))))
 
-  abbrev OpenSays : Terms → Opened → SProp 𝓤
+  abbrev OpenSays : Terms → Result Account Refusal → SProp 𝓤
   OpenSays t o = (open-call.clauses 𝓛 at_mem run tt (t, tt)).ensures tt o (at_exit open-call.ended tt (t, tt) (tt, tt))
 
   -- the reading calls, of the totals s
@@ -100,14 +101,14 @@ module _ {M : Type 1} {𝓤 : Ura M} (𝓛 : Logic 𝓤) (at_mem : Memory → SP
 
   -- ---- each is the step that the relation takes
 
-  post-promises : (κs : Lfts 1) (a : MutBor Account) (e : Event) (b : Account) (n : Answer) → ent 𝓤 (PostSays κs a e b n) (fact 𝓤 (Posts a.now e b n))
+  post-promises : (κs : Lfts 1) (a : MutBor Account) (e : Event) (b : Account) (n : Result ℕ Refusal) → ent 𝓤 (PostSays κs a e b n) (fact 𝓤 (Posts a.now e b (answer_of n)))
   post-promises κs a e b n = id⊢ 𝓤 _
 
-  row-promises : (κs : Lfts 3) (a : MutBor Account) (es : Bor (List Event)) (buffer : MutBor (List ℕ)) (b : Account) (bytes : List ℕ) (n : ℕ)
-      → ent 𝓤 (RowSays κs a es buffer b bytes n) (fact 𝓤 (PostsRow a.now es.now buffer.now b bytes n))
+  row-promises : (κs : Lfts 3) (a : MutBor Account) (es : Bor (List Event)) (buffer : MutBor (List ℕ)) (b : Account) (bytes : List ℕ) (n : Result Unit Refusal)
+      → ent 𝓤 (RowSays κs a es buffer b bytes n) (fact 𝓤 (PostsRow a.now es.now buffer.now b bytes (code_of n)))
   row-promises κs a es buffer b bytes n = id⊢ 𝓤 _
 
-  open-promises : (t : Terms) (o : Opened) → ent 𝓤 (OpenSays t o) (fact 𝓤 (IsOpened t o))
+  open-promises : (t : Terms) (o : Result Account Refusal) → ent 𝓤 (OpenSays t o) (fact 𝓤 (IsOpened t o))
   open-promises t o = id⊢ 𝓤 _
 
   module _ (s : Totals) where
@@ -135,11 +136,11 @@ module _ {M : Type 1} {𝓤 : Ura M} (𝓛 : Logic 𝓤) (at_mem : Memory → SP
   -- the call that gets account a leaves account b and hands back r
   abbrev CallSays : Account → Call → Back → Account → SProp 𝓤
   CallSays a (single e) r b =
-      ex 𝓤 (λ (κs : Lfts 1). ex 𝓤 (λ (x : MutBor Account). ex 𝓤 (λ (n : Answer).
-      sep 𝓤 (fact 𝓤 ((x.now ≡ a) × (r ≡ answered n))) (PostSays κs x e b n))))
+      ex 𝓤 (λ (κs : Lfts 1). ex 𝓤 (λ (x : MutBor Account). ex 𝓤 (λ (n : Result ℕ Refusal).
+      sep 𝓤 (fact 𝓤 ((x.now ≡ a) × (r ≡ answered (answer_of n)))) (PostSays κs x e b n))))
   CallSays a (row es buffer) r b =
-      ex 𝓤 (λ (κs : Lfts 3). ex 𝓤 (λ (x : MutBor Account). ex 𝓤 (λ (y : Bor (List Event)). ex 𝓤 (λ (z : MutBor (List ℕ)). ex 𝓤 (λ (n : ℕ). ex 𝓤 (λ (bytes : List ℕ).
-      sep 𝓤 (fact 𝓤 ((x.now ≡ a) × (y.now ≡ es) × (z.now ≡ buffer) × (r ≡ written n bytes))) (RowSays κs x y z b bytes n)))))))
+      ex 𝓤 (λ (κs : Lfts 3). ex 𝓤 (λ (x : MutBor Account). ex 𝓤 (λ (y : Bor (List Event)). ex 𝓤 (λ (z : MutBor (List ℕ)). ex 𝓤 (λ (n : Result Unit Refusal). ex 𝓤 (λ (bytes : List ℕ).
+      sep 𝓤 (fact 𝓤 ((x.now ≡ a) × (y.now ≡ es) × (z.now ≡ buffer) × (r ≡ written (code_of n) bytes))) (RowSays κs x y z b bytes n)))))))
 
   -- each call gets the account as the call before left it
   unfoldable pub CallsSay : Account → List Call → List Seen → SProp 𝓤
@@ -166,12 +167,12 @@ module _ {M : Type 1} {𝓤 : Ura M} (𝓛 : Logic 𝓤) (at_mem : Memory → SP
   called : (a : Account) (c : Call) (r : Back) (b : Account) → ent 𝓤 (CallSays a c r b) (fact 𝓤 (Called a c r b))
   called a (single e) r b =
       ex_e 𝓤 _ (λ κs. ex_e 𝓤 _ (λ x. ex_e 𝓤 _ (λ n.
-      via 𝓤 _ (both ((x.now ≡ a) × (r ≡ answered n)) (Posts x.now e b n) (id⊢ 𝓤 _) (post-promises κs x e b n))
-      (fact_mono 𝓤 _ (Called a (single e) r b) (λ q. (n, subst (λ (z : Account). Posts z e b n) q.0.0 q.1, q.0.1))))))
+      via 𝓤 _ (both ((x.now ≡ a) × (r ≡ answered (answer_of n))) (Posts x.now e b (answer_of n)) (id⊢ 𝓤 _) (post-promises κs x e b n))
+      (fact_mono 𝓤 _ (Called a (single e) r b) (λ q. (answer_of n, subst (λ (z : Account). Posts z e b (answer_of n)) q.0.0 q.1, q.0.1))))))
   called a (row es buffer) r b =
       ex_e 𝓤 _ (λ κs. ex_e 𝓤 _ (λ x. ex_e 𝓤 _ (λ y. ex_e 𝓤 _ (λ z. ex_e 𝓤 _ (λ n. ex_e 𝓤 _ (λ bytes.
-      via 𝓤 _ (both ((x.now ≡ a) × (y.now ≡ es) × (z.now ≡ buffer) × (r ≡ written n bytes)) (PostsRow x.now y.now z.now b bytes n) (id⊢ 𝓤 _) (row-promises κs x y z b bytes n))
-      (fact_mono 𝓤 _ (Called a (row es buffer) r b) (λ q. (n, bytes, rw (sym q.0.0, sym q.0.1, sym q.0.2) q.1, q.0.3)))))))))
+      via 𝓤 _ (both ((x.now ≡ a) × (y.now ≡ es) × (z.now ≡ buffer) × (r ≡ written (code_of n) bytes)) (PostsRow x.now y.now z.now b bytes (code_of n)) (id⊢ 𝓤 _) (row-promises κs x y z b bytes n))
+      (fact_mono 𝓤 _ (Called a (row es buffer) r b) (λ q. (code_of n, bytes, rw (sym q.0.0, sym q.0.1, sym q.0.2) q.1, q.0.3)))))))))
 
   runs : (cs : List Call) (vs : List Seen) (a : Account) → ent 𝓤 (CallsSay a cs vs) (fact 𝓤 (RunsFrom a cs vs))
   unfolding CallsSay
@@ -183,12 +184,12 @@ module _ {M : Type 1} {𝓤 : Ura M} (𝓛 : Logic 𝓤) (at_mem : Memory → SP
       via 𝓤 _ (both (Called a c v.back b) (ShowsReadings b.totals v.after × RunsFrom b cs vs) (called a c v.back b) (both (ShowsReadings b.totals v.after) (RunsFrom b cs vs) (reads b.totals v.after) (runs cs vs b)))
       (fact_mono 𝓤 _ (RunsFrom a (c ∷ cs) (v ∷ vs)) (λ q. (b, q.0, q.1.0, q.1.1))))
 
-  -- Demand 3: whatever the contracts leave to be seen of a list of calls, where `account::open` answered 0, is as demand 3 claims.
+  -- Demand 3: whatever the contracts leave to be seen of a list of calls, from the account a that `account::open` made, is as demand 3 claims.
   pub contracts-hold : (t : Terms) (first : Readings) (cs : List Call) (vs : List Seen)
-      → ent 𝓤 (ex 𝓤 (λ (o : Opened). sep 𝓤 (OpenSays t o) (sep 𝓤 (fact 𝓤 (o.code ≡ 0)) (sep 𝓤 (ReadingsSay o.account.totals first) (CallsSay o.account cs vs)))))
+      → ent 𝓤 (ex 𝓤 (λ (a : Account). sep 𝓤 (OpenSays t (Ok a)) (sep 𝓤 (ReadingsSay a.totals first) (CallsSay a cs vs))))
       (fact 𝓤 ((first ≡ shows t opening) × CallsHold t opening cs vs))
   contracts-hold t first cs vs =
-      ex_e 𝓤 _ (λ o.
-      via 𝓤 _ (both (IsOpened t o) _ (open-promises t o)
-      (both (o.code ≡ 0) _ (id⊢ 𝓤 _) (both (ShowsReadings o.account.totals first) (RunsFrom o.account cs vs) (reads o.account.totals first) (runs cs vs o.account))))
-      (fact_mono 𝓤 _ ((first ≡ shows t opening) × CallsHold t opening cs vs) (λ q. (demand-3 t).every first cs vs (o, q.0, q.1.0, q.1.1.0, q.1.1.1))))
+      ex_e 𝓤 _ (λ a.
+      via 𝓤 _ (both (IsOpened t (Ok a)) _ (open-promises t (Ok a))
+      (both (ShowsReadings a.totals first) (RunsFrom a cs vs) (reads a.totals first) (runs cs vs a)))
+      (fact_mono 𝓤 _ ((first ≡ shows t opening) × CallsHold t opening cs vs) (λ q. (demand-3 t).every first cs vs (a, q.0, q.1.0, q.1.1))))

@@ -7,7 +7,7 @@ use mathlib.Core.List.{List, [], ◌∷◌, ◌++◌}
 use mathlib.Core.Logic.{◌↔◌}
 use lib.ListN.{length, get_or, drop}
 use lib.Dec.{ltb}
-use lib.IntN.{ℤ, pos, neg_ℤ, nat_abs, ◌+ℤ◌, ◌-ℤ◌, +ℤ_idl, +ℤ_idr, +ℤ_invl, +ℤ_assoc}
+use lib.IntN.{ℤ, pos, nat_abs, ◌+ℤ◌, ◌-ℤ◌, +ℤ_idr, +ℤ_invr, +ℤ_comm, +ℤ-neg_ℤ_cancel}
 use borrow.Author.Tests.{eqb-true}
 use Rattle.terms.specs.Terms.{terms_code}
 use Rattle.terms.specs.declared.Terms.{Terms}
@@ -24,7 +24,8 @@ use Rattle.ledger.proofs.Rows.{code_at}
 use Rattle.ledger.proofs.Identity.{settled_is}
 use Rattle.ledger.proofs.Disconnect.{disconnect-granted}
 use Rattle.ledger.proofs.Standing.{standing-none}
-use Rattle.account.specs.Step.{step_of, open_of}
+use Rattle.account.specs.Record.{fresh}
+use Rattle.account.specs.Step.{Opened, step_of}
 use Rattle.account.specs.declared.Account.{Account}
 use Rattle.refinement.specs.Lists.{account_after}
 use Rattle.refinement.specs.Agree.{Represents}
@@ -32,7 +33,7 @@ use Rattle.refinement.proofs.Lists.{represents-fresh, represents-after, opened-v
 use Rattle.posting.specs.Posting.{answer_of, row_of}
 use Rattle.posting.proofs.Ledgers.{answer_back, row_back, row-account, posts, posts-row}
 use Rattle.readings.specs.Readings.{balance_of, settled_of}
-use Rattle.readings.proofs.After.{balance-reading, settled-reading, is-balance, is-plan, is-service, is-settled, is-estimates}
+use Rattle.readings.proofs.After.{balance-reading, settled-reading, is_balance, is_plan, is_service, is_settled, is_estimates}
 use Rattle.demand.specs.Calls.{Readings, Seen, ShowsReadings, Called, RunsFrom}
 use Rattle.demand.specs.Demand3.{shows, codes_in, CallHolds, CallsHold, Demand3}
 
@@ -69,19 +70,13 @@ module _ (t : Terms) (a : Account) (l : Ledger) (s : Represents t a l) where
 
 -- a sum that leaves a number as it is, is 0
 adds-nothing : (z : ℤ) (n : ℕ) → z +ℤ pos n ≡ z → n ≡ 0
-adds-nothing z n h =
-    ap nat_abs
-    (sym (+ℤ_idl (pos n))
-    ∙ ap (λ (x : ℤ). x +ℤ pos n) (sym (+ℤ_invl z))
-    ∙ +ℤ_assoc (neg_ℤ z) z (pos n)
-    ∙ ap (λ (x : ℤ). neg_ℤ z +ℤ x) h
-    ∙ +ℤ_invl z)
+adds-nothing z n h = ap nat_abs (sym (+ℤ-neg_ℤ_cancel (pos n) z) ∙ ap (λ (x : ℤ). x -ℤ z) (+ℤ_comm (pos n) z ∙ h) ∙ +ℤ_invr z)
 
 module _ (t : Terms) (l : Ledger) (q : Invariant t l) where
   exact : (l.balance -ℤ pos l.plan ≡ settled t l.list) ↔ ((u : ℕ) → estimate_cost_of (usage_day t l.list u) ≡ 0)
   exact = (
     λ h. (standing-none t l q).0 (adds-nothing (l.balance -ℤ pos l.plan) (standing_cost t l.list) (settled_is t l q ∙ sym h)),
-    λ z. sym (+ℤ_idr (l.balance -ℤ pos l.plan)) ∙ ap (λ (n : ℕ). l.balance -ℤ pos l.plan +ℤ pos n) (sym ((standing-none t l q).1 z)) ∙ settled_is t l q,
+    λ z. rw (← settled_is t l q, (standing-none t l q).1 z) (sym (+ℤ_idr (l.balance -ℤ pos l.plan))),
   )
 
 -- what a call hands back beside the codes of the events that it was fed
@@ -130,11 +125,11 @@ read a = record { balance = balance_of a.totals; plan = a.totals.plan; on = a.to
 reads : (a : Account) → ShowsReadings a.totals (read a)
 unfolding read
 reads a = record {
-  balance = is-balance a.totals _ refl;
-  plan = is-plan a.totals;
-  on = is-service a.totals;
-  settled = is-settled a.totals _ refl;
-  standing = is-estimates a.totals;
+  balance = is_balance a.totals _ refl;
+  plan = is_plan a.totals;
+  on = is_service a.totals;
+  settled = is_settled a.totals _ refl;
+  standing = is_estimates a.totals;
 }
 
 runs_of : (cs : List Call) (a : Account) → (vs : List Seen) × RunsFrom a cs vs
@@ -154,8 +149,8 @@ runs_of (row es buffer ∷ cs) a =
 pub demand-3 : (t : Terms) → Demand3 t
 unfolding terms_code
 demand-3 t = record {
-  every = λ first cs vs q.
-      let s : Represents t q.0.account opening = rw q.1 (represents-fresh t (opened-valid t q.0 q.1 q.2)) in
-      (shows-is t q.0.account opening s first q.3, calls-hold t cs vs q.0.account opening s q.4);
-  some = λ v cs. let r = runs_of cs (open_of t).account in (read (open_of t).account, r.0, (open_of t, refl, simp v, reads (open_of t).account, r.1));
+  every = λ first cs vs (a, is, f, q).
+      let s : Represents t a opening = rw (ap (λ (o : Opened). o.account) is) (represents-fresh t (opened-valid t a is)) in
+      (shows-is t a opening s first f, calls-hold t cs vs a opening s q);
+  some = λ v cs. let r = runs_of cs (fresh t) in (read (fresh t), r.0, (fresh t, simp v, reads (fresh t), r.1));
 }

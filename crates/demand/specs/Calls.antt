@@ -1,12 +1,11 @@
 -- Lists of posting calls, and what is seen of them by the promises of the calls.
-use Rattle.std.specs.Prelude.{ℕ, ◌≡◌, Bool, List, [], ◌∷◌, ℤ}
+use Rattle.std.specs.Prelude.{ℕ, ◌≡◌, Bool, List, [], ◌∷◌, ℤ, Ok}
 use Rattle.terms.specs.declared.Terms.{Terms}
 use Rattle.ledger.specs.declared.Answer.{Answer}
 use Rattle.ledger.specs.Calls.{Call, single, row, Back, answered, written}
 use Rattle.moves.specs.declared.Totals.{Totals}
 use Rattle.account.specs.Step.{IsOpened}
 use Rattle.account.specs.declared.Account.{Account}
-use Rattle.account.specs.declared.Opened.{Opened}
 use Rattle.posting.specs.Posting.{Posts, PostsRow}
 use Rattle.readings.specs.Readings.{IsBalance, IsPlan, IsService, IsSettled, IsEstimates}
 
@@ -43,6 +42,6 @@ RunsFrom a [] (v ∷ vs) = ⊥
 RunsFrom a (c ∷ cs) [] = ⊥
 RunsFrom a (c ∷ cs) (v ∷ vs) = (b : Account) × Called a c v.back b × ShowsReadings b.totals v.after × RunsFrom b cs vs
 
--- "the first a fresh one": by the promise of `account::open`, where it answers 0, with the readings `first`; else "no account made".
+-- "the first a fresh one": what `account::open` makes of the terms, by its promise, with the readings `first`; else "no account made".
 abbrev pub Runs : Terms → Readings → List Call → List Seen → Type 0
-Runs t first cs vs = (o : Opened) × IsOpened t o × (o.code ≡ 0) × ShowsReadings o.account.totals first × RunsFrom o.account cs vs
+Runs t first cs vs = (a : Account) × IsOpened t (Ok a) × ShowsReadings a.totals first × RunsFrom a cs vs
