@@ -2,28 +2,15 @@
 // The file stdout has the answers: to `all` those of Python's datetime (make_vectors.py), to the others worked out by hand.
 #![tactic(auto)]
 
-use calendar::{Date, Dated, Numbered};
+use calendar::{Date, MONTH_COUNT, Weekday};
 use std::io;
 use std::io::{BufWriter, Read, Write};
 
-fn say(out: &mut impl Write, n: u64) -> io::Result<()> {
-    write!(out, " {n}")
-}
-
-fn say_whether(out: &mut impl Write, yes: bool) -> io::Result<()> {
-    if yes { say(out, 1) } else { say(out, 0) }
-}
+const NO_WEEKDAY: u32 = 7;
 
 // Year, month and day as one number.
-fn say_date(out: &mut impl Write, d: Date) -> io::Result<()> {
-    say(
-        out,
-        d.year as u64 * 10000 + d.month as u64 * 100 + d.day as u64,
-    )
-}
-
-fn say_outside(out: &mut impl Write) -> io::Result<()> {
-    out.write_all(b" outside")
+fn number_of(d: Date) -> u64 {
+    d.year as u64 * 10000 + d.month as u64 * 100 + d.day as u64
 }
 
 // The date that such a number is, or is not.
@@ -35,31 +22,38 @@ fn date(n: u32) -> Date {
     }
 }
 
+fn weekday_number(w: Option<Weekday>) -> u32 {
+    w.map_or(NO_WEEKDAY, Weekday::number)
+}
+
 fn exists(out: &mut impl Write, d: Date) -> io::Result<()> {
-    say_whether(out, calendar::exists(d.year, d.month, d.day))?;
-    say_whether(out, calendar::can_open(d))
+    let is_date = calendar::exists(d.year, d.month, d.day) as u8;
+    let can_open = calendar::can_open(d) as u8;
+    write!(out, " {is_date} {can_open}")
+}
+
+// A number, or that there is none.
+fn say(out: &mut impl Write, n: Option<u64>) -> io::Result<()> {
+    match n {
+        Some(n) => write!(out, " {n}"),
+        None => write!(out, " outside"),
+    }
 }
 
 fn day(out: &mut impl Write, opened: Date, k: u32) -> io::Result<()> {
-    match calendar::date_of(opened, k) {
-        Dated::On(d) => say_date(out, d)?,
-        Dated::Outside => say_outside(out)?,
-    }
-    say(out, calendar::weekday_of(opened, k) as u64)?;
-    say(out, calendar::month_of(opened, k) as u64)
+    say(out, calendar::date_of(opened, k).map(number_of))?;
+    let weekday = weekday_number(calendar::weekday_of(opened, k));
+    let month = calendar::month_of(opened, k).unwrap_or(MONTH_COUNT);
+    write!(out, " {weekday} {month}")
 }
 
 fn number(out: &mut impl Write, opened: Date, d: Date) -> io::Result<()> {
-    match calendar::day_of(opened, d) {
-        Numbered::Day(k) => say(out, k as u64),
-        Numbered::Outside => say_outside(out),
-    }
+    say(out, calendar::day_of(opened, d).map(u64::from))
 }
 
 fn month(out: &mut impl Write, opened: Date, m: u32) -> io::Result<()> {
-    let days = calendar::days_of(opened, m);
-    say(out, days.from as u64)?;
-    say(out, days.to as u64)
+    let days = calendar::days_of(opened, m).unwrap_or(0..0);
+    write!(out, " {} {}", days.start, days.end)
 }
 
 fn all(out: &mut impl Write, opened: Date, k: u32, d: Date, m: u32) -> io::Result<()> {
@@ -68,35 +62,26 @@ fn all(out: &mut impl Write, opened: Date, k: u32, d: Date, m: u32) -> io::Resul
     day(out, opened, k)?;
     number(out, opened, d)?;
     month(out, opened, m)?;
-    say_date(out, d.next())?;
-    say(out, d.weekday() as u64)?;
-    say(out, d.month_from(opened))
+    let next = number_of(d.next());
+    let weekday = weekday_number(d.weekday());
+    write!(out, " {next} {weekday} {}", d.month_from(opened))
 }
 
 // The number with one digit more, of nine at most; another byte, as the minus of a date, is passed over.
 fn with_digit(n: u32, byte: u8) -> u32 {
-    if byte < b'0' {
-        return n;
+    match byte {
+        b'0'..=b'9' => n % 100000000 * 10 + (byte - b'0') as u32,
+        _ => n,
     }
-    if byte > b'9' {
-        return n;
-    }
-    n % 100000000 * 10 + (byte - b'0') as u32
 }
 
-// A space leads to the next of five words.
-fn place(at: usize, byte: u8) -> usize {
-    if byte == b' ' { at % 5 + 1 } else { at }
-}
-
-// The numbers that a line's words are.
+// The numbers that a line's five words are.
 fn numbers(line: &[u8]) -> [u32; 5] {
-    let mut n = [0u32; 5];
-    let mut at = 0;
-    for byte in line {
-        at = place(at, *byte);
-        let k = at % 5;
-        n[k] = with_digit(n[k], *byte);
+    let mut n = [0; 5];
+    for (i, word) in line.split(|b| *b == b' ').enumerate() {
+        for byte in word {
+            n[i % 5] = with_digit(n[i % 5], *byte);
+        }
     }
     n
 }
@@ -114,31 +99,23 @@ fn ask(out: &mut impl Write, word: u8, n: [u32; 5]) -> io::Result<()> {
 
 // The question, and the answers to it. A line that starts with `#` is a remark.
 fn one(out: &mut impl Write, line: &[u8]) -> io::Result<()> {
-    if line.len() == 0 {
-        return Ok(());
+    match line {
+        [] | [b'#', ..] => Ok(()),
+        [word, ..] => {
+            out.write_all(line)?;
+            write!(out, ":")?;
+            ask(out, *word, numbers(line))?;
+            writeln!(out)
+        }
     }
-    let word = line[0];
-    if word == b'#' {
-        return Ok(());
-    }
-    out.write_all(line)?;
-    out.write_all(b":")?;
-    ask(out, word, numbers(line))?;
-    out.write_all(b"\n")
 }
 
 // The questions of a text, each up to its line end.
 fn lines(out: &mut impl Write, text: &[u8]) -> io::Result<()> {
-    let mut start = 0;
-    let mut i = 0;
-    while i < text.len() {
-        if text[i] != b'\n' {
-            i += 1;
-            continue;
+    for line in text.split_inclusive(|b| *b == b'\n') {
+        if let Some(line) = line.strip_suffix(b"\n") {
+            one(out, line)?;
         }
-        one(out, &text[start..i])?;
-        i += 1;
-        start = i;
     }
     Ok(())
 }
