@@ -9,7 +9,7 @@ use lib.ListN.{length, drop, length-append}
 use lib.Dec.{ltb, leb}
 use borrow.Author.Tests.{lt-ltb, le-ltb, leb-true}
 use Rattle.printing.specs.Printing.{over, Puts, Wrote, Whole}
-use Rattle.printing.specs.Printer.{Prints, Printed}
+use Rattle.printing.specs.Printer.{Prints, Writes}
 use Rattle.printing.specs.declared.Printer.{Printer}
 use Rattle.printing.proofs.Laws.{length_over, over-over, put-fits, past_fits, puts-all, puts-nothing}
 
@@ -32,10 +32,10 @@ module _ {b : List ℕ} {at : ℕ} {x after : List ℕ} {r : ℕ} where
 -- ---- by a printer
 
 module _ {p q : Printer} {x : List ℕ} where
-  pub printed : Prints p x q → p.at + length x ≤ length p.out.now → Printed p x q
+  pub printed : Prints p x q → p.at + length x ≤ length p.out.now → Writes p x q
   printed w h = record { same = w.same; wrote = wrote w.puts h }
 
-  pub printed_then : {y : List ℕ} {r : Printer} → Printed p x q → Printed q y r → Printed p (x ++ y) r
+  pub printed_then : {y : List ℕ} {r : Printer} → Writes p x q → Writes q y r → Writes p (x ++ y) r
   printed_then w v = record { same = v.same ∙ w.same; wrote = wrote_then w.wrote v.wrote }
 
 -- a word and what follows it, as one
@@ -46,8 +46,8 @@ module _ (p : Printer) (x y : List ℕ) where
   pub both : {q r : Printer} → leb (p.at + (length x + length y)) (length p.out.now) ≡ true → Prints p x q → Prints q y r → Prints p (x ++ y) r
   both {q} {r} t w v =
       let h : p.at + (length x + length y) ≤ length p.out.now = leb-true _ _ t in
-      let first : Printed p x q = printed w (omega (arith, h)) in
-      let whole : Printed p (x ++ y) r = printed_then first (printed v (omega (arith, h, first.wrote.next, kept first.wrote))) in
+      let first : Writes p x q = printed w (omega (arith, h)) in
+      let whole : Writes p (x ++ y) r = printed_then first (printed v (omega (arith, h, first.wrote.next, kept first.wrote))) in
       record { same = whole.same; puts = puts-all _ _ _ _ _ whole.wrote.room whole.wrote.buffer whole.wrote.next }
 
   pub neither : leb (p.at + (length x + length y)) (length p.out.now) ≡ false → Prints p (x ++ y) p
@@ -56,25 +56,26 @@ module _ (p : Printer) (x y : List ℕ) where
 -- ---- the last word, the last field, and a field and what follows it: whole, and how far they reach, with `most` digits at most and `rest`
 -- bytes at most after them
 
-pub word-last : {p q : Printer} {x : List ℕ} → Prints p x q → p.at + length x ≤ length p.out.now → Printed p x q × (q.at ≤ p.at + length x)
-word-last {p} {q} {x} w h = let v : Printed p x q = printed w h in (v, omega (arith, v.wrote.next))
+pub word-last : {p q : Printer} {x : List ℕ} → Prints p x q → p.at + length x ≤ length p.out.now → Writes p x q × (q.at ≤ p.at + length x)
+word-last {p} {q} {x} w h = let v : Writes p x q = printed w h in (v, omega (arith, v.wrote.next))
 
 module _ {p q : Printer} (word digits : List ℕ) (most : ℕ) (few : length digits ≤ most) (w : Prints p (word ++ digits) q) where
-  pub field-last : p.at + (length word + most) ≤ length p.out.now → Printed p (word ++ digits) q × (q.at ≤ p.at + (length word + most))
+  pub field-last : p.at + (length word + most) ≤ length p.out.now → Writes p (word ++ digits) q × (q.at ≤ p.at + (length word + most))
   field-last h =
-      let v : Printed p (word ++ digits) q = printed w (simp length-append (omega arith)) in
+      let v : Writes p (word ++ digits) q = printed w (simp length-append (omega arith)) in
       (v, omega (arith, v.wrote.next, length-append word digits))
 
-  pub field-then : (rest : ℕ) {y : List ℕ} {r : Printer} → p.at + (length word + most + rest) ≤ length p.out.now
-      → (q.at + rest ≤ length q.out.now → Printed q y r × (r.at ≤ q.at + rest))
-      → Printed p (word ++ (digits ++ y)) r × (r.at ≤ p.at + (length word + most + rest))
-  field-then rest {y} h next =
+  pub field-then : (rest : ℕ) {y : List ℕ} {r : Printer}
+      → (q.at + rest ≤ length q.out.now → Writes q y r × (r.at ≤ q.at + rest))
+      → p.at + (length word + most + rest) ≤ length p.out.now
+      → Writes p (word ++ (digits ++ y)) r × (r.at ≤ p.at + (length word + most + rest))
+  field-then rest {y} next h =
       let f = field-last (omega arith) in
       let v = next (omega (arith, f.1, kept f.0.wrote)) in
       (rw (sym (append_assoc word digits y)) (printed_then f.0 v.0), omega (arith, f.1, v.1))
 
 -- bytes from the start on
-from_start : (b x : List ℕ) → over b 0 x ≡ x ++ drop (length x) b
+pub from_start : (b x : List ℕ) → over b 0 x ≡ x ++ drop (length x) b
 unfolding over
 from_start b x = rw (zero-add (length x))
 

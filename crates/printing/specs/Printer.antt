@@ -9,6 +9,6 @@ pub record Prints (p : Printer) (bytes : List ℕ) (q : Printer) : Type 0 where
   pub puts : Puts p.out.now p.at bytes q.out.now q.at
 
 -- They had room, and stand there.
-pub record Printed (p : Printer) (bytes : List ℕ) (q : Printer) : Type 0 where
+pub record Writes (p : Printer) (bytes : List ℕ) (q : Printer) : Type 0 where
   pub same : q.out.ghost_name ≡ p.out.ghost_name
   pub wrote : Wrote p.out.now p.at bytes q.out.now q.at

@@ -13,14 +13,14 @@ use Rattle.account.specs.Step.{step_of}
 use Rattle.account.specs.declared.Account.{Account}
 use Rattle.scanner.specs.Scanner.{Read, got, broken}
 use Rattle.text.specs.Text.{read_event}
-use Rattle.text.proofs.Laws.{event-progress}
 use Rattle.printing.proofs.Counts.{uncounted}
 use Rattle.transcript.specs.Events.{Fold, fold_by, fold_in}
 use Rattle.transcript.specs.Transcript.{ledger_lines}
 use Rattle.transcript.specs.Work.{account_line, account_last_line, account_lines}
 use Rattle.transcript.specs.Pieces.{among_events, piece_by, events_piece}
 use Rattle.transcript.specs.Counts.{FoldSuffices, CountsSuffice}
-use Rattle.transcript.specs.declared.Progress.{Progress}
+use Rattle.transcript.specs.Progress.{Reached}
+use Rattle.transcript.proofs.Rests.{event-rest}
 
 pub by_read : {Z : Type 0} (x : Read Event) → ((e : Event) (r : List ℕ) → x ≡ got e r → Z) → (x ≡ broken → Z) → Z
 by_read (got e r) g f = g e r refl
@@ -43,7 +43,7 @@ module _ {S Y : Type 0} (w : Fold S Y) (more : S → List ℕ → Y) (x : S) whe
 
 -- ---- how far a piece goes, by what stands there
 
-module _ (more : Account → ℕ → ℕ → ℕ → Progress) (room : ℕ) (s : List ℕ) (a : Account) (at count n : ℕ) where
+module _ (more : Account → ℕ → ℕ → ℕ → Reached) (room : ℕ) (s : List ℕ) (a : Account) (at count n : ℕ) where
   pub piece-end : length s ≤ at → piece_by more room s a at count n ≡ among_events a at count (n + length (account_last_line a.totals)) true
   piece-end h = simp (le-leb (length s) at h)
 
@@ -69,11 +69,11 @@ fold-local w f g x [] h = refl
 fold-local w f g x (b ∷ s) h = by_read (read_event (b ∷ s))
     (λ e r q.
     fold-got w f x (b ∷ s) r e (omega arith) q
-    ∙ ap (w.event x e) (h (w.step x e) r (omega (arith, event-progress (b ∷ s) e r q)))
+    ∙ ap (w.event x e) (h (w.step x e) r (omega (arith, (event-rest (b ∷ s) e r q).1)))
     ∙ sym (fold-got w g x (b ∷ s) r e (omega arith) q))
     (λ q. fold-broken w f x (b ∷ s) (omega arith) q ∙ sym (fold-broken w g x (b ∷ s) (omega arith) q))
 
-piece-local : (f g : Account → ℕ → ℕ → ℕ → Progress) (room : ℕ) (s : List ℕ) (a : Account) (at count n : ℕ)
+piece-local : (f g : Account → ℕ → ℕ → ℕ → Reached) (room : ℕ) (s : List ℕ) (a : Account) (at count n : ℕ)
     → ((b : Account) (x i m : ℕ) → length s - x < length s - at → f b x i m ≡ g b x i m) → piece_by f room s a at count n ≡ piece_by g room s a at count n
 piece-local f g room s a at count n h = decide (leb (length s) at)
     (λ y. let e = leb-true (length s) at y in piece-end f room s a at count n e ∙ sym (piece-end g room s a at count n e))
@@ -84,7 +84,7 @@ piece-local f g room s a at count n h = decide (leb (length s) at)
     by_read (read_event (drop at s))
     (λ e r q.
     piece-got f room s a at count n m l e r q
-    ∙ h (step_of a e).account (length s - length r) (count + 1) _ (omega (arith, event-progress (drop at s) e r q, length-drop at s))
+    ∙ h (step_of a e).account (length s - length r) (count + 1) _ (omega (arith, (event-rest (drop at s) e r q).1, length-drop at s))
     ∙ sym (piece-got g room s a at count n m l e r q))
     (λ q. piece-broken f room s a at count n m l q ∙ sym (piece-broken g room s a at count n m l q))))
 
@@ -103,11 +103,11 @@ fold-suffices {S} {Y} w x s =
 pub counts-suffice : CountsSuffice
 unfolding events_piece
 counts-suffice = record {
-  progress = λ s r e g. omega (arith, event-progress s e r g);
+  progress = λ s r e g. omega (arith, (event-rest s e r g).1);
   ledger-lines = λ t. fold-suffices (ledger_lines t);
   account-lines = fold-suffices account_lines;
   pieces = λ room s a at count n.
-      uncounted {X = Account × ℕ × ℕ × ℕ} {Y = Progress} (λ x. length s - x.1)
+      uncounted {X = Account × ℕ × ℕ × ℕ} {Y = Reached} (λ x. length s - x.1)
       (λ f x. piece_by (λ (b : Account) (y i m : ℕ). f (b, y, i, m)) room s x.0 x.1 x.2 x.3)
       (λ k x. events_piece k room s x.0 x.1 x.2 x.3)
       (λ k x. refl)

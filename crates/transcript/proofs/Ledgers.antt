@@ -13,8 +13,7 @@ use Rattle.ledger.specs.Rules.{Ledger}
 use Rattle.ledger.specs.Ledger.{opening, ledger_step}
 use Rattle.ledger.proofs.Cases.{decide}
 use Rattle.account.specs.Record.{fresh}
-use Rattle.account.specs.Step.{step_of, open_of}
-use Rattle.account.specs.declared.Opened.{Opened}
+use Rattle.account.specs.Step.{Opened, step_of, open_of}
 use Rattle.account.specs.declared.Account.{Account}
 use Rattle.refinement.specs.Agree.{Represents, Refinement}
 use Rattle.refinement.proofs.Lists.{refinement-holds}
@@ -24,7 +23,7 @@ use Rattle.text.specs.Text.{read_terms, read_event}
 use Rattle.transcript.specs.Events.{fold_in, fold_events}
 use Rattle.transcript.specs.Transcript.{ledger_line, ledger_last_line, ledger_lines, terms_line, by_terms, all_lines, transcript}
 use Rattle.transcript.specs.Pieces.{start_of, begun_of, Begun}
-use Rattle.transcript.specs.declared.Progress.{Progress}
+use Rattle.transcript.specs.Progress.{Reached}
 use Rattle.transcript.proofs.Whole.{begun, events-left, refusal-left}
 use Rattle.transcript.proofs.Terms.{valid, refused, by-terms}
 use Rattle.transcript.specs.Work.{account_line, account_last_line, account_lines}
@@ -75,7 +74,7 @@ module _ (t : Terms) (o : Opened) (is : o ≡ open_of t) where
       → Begun text (record { account = o.account; at = next; count = 0; code = o.code; length = 0; done = false })
   unfolding transcript
   opened-begun text next l w e =
-      let start : Opened → ℕ → Progress = λ p at. record { account = p.account; at = at; count = 0; code = p.code; length = 0; done = false } in
+      let start : Opened → ℕ → Reached = λ p at. record { account = p.account; at = at; count = 0; code = p.code; length = 0; done = false } in
       let there : next ≡ length text - length (drop next text) = rw (length-drop next text) (omega arith) in
       begun text (start o next)
       (simp (le-ltb 65536 (length text) l, e) (ap₂ start is there))
@@ -92,6 +91,6 @@ begun-long text l = simp (lt-ltb 65536 (length text) l)
 pub begun-broken : (text : List ℕ) → length text ≤ 65536 → read_terms text ≡ broken → begun_of text ≡ start_of zero_terms 0 15
 begun-broken text l e = simp (le-ltb 65536 (length text) l, e)
 
-pub malformed-begun : (text : List ℕ) (p : Progress) → p ≡ start_of zero_terms 0 15 → begun_of text ≡ start_of zero_terms 0 15 → transcript text ≡ terms_line 15 → Begun text p
+pub malformed-begun : (text : List ℕ) (p : Reached) → p ≡ start_of zero_terms 0 15 → begun_of text ≡ start_of zero_terms 0 15 → transcript text ≡ terms_line 15 → Begun text p
 malformed-begun text p m b e =
     rw m (begun text (start_of zero_terms 0 15) (sym b) (refusal-left text (start_of zero_terms 0 15) refl (omega arith) (λ z. omega (arith, z)) ∙ sym e) (λ z. absurd (omega (arith, z))))

@@ -1,3 +1,4 @@
+mod Rests
 mod Turn
 pub mod Ledgers
 pub mod Counts

@@ -8,8 +8,7 @@ use borrow.Author.Tests.{lt-ltb, le-ltb}
 use Rattle.terms.specs.Terms.{valid_terms, terms_code}
 use Rattle.terms.specs.declared.Terms.{Terms}
 use Rattle.ledger.proofs.Cases.{decide}
-use Rattle.account.specs.Step.{open_of}
-use Rattle.account.specs.declared.Opened.{Opened}
+use Rattle.account.specs.Step.{Opened, open_of}
 use Rattle.refinement.proofs.Lists.{opened-valid}
 use Rattle.scanner.specs.Scanner.{Read, got}
 use Rattle.text.specs.Text.{read_terms}

@@ -1,14 +1,14 @@
 -- The loop over the events: what it keeps, one turn, and how it ends. Assumes nothing.
 use Prim.Native.Nat.{ℕ, ◌+◌, ◌*◌, ◌-◌, ◌≤◌, ◌<◌}
-use mathlib.Core.Path.{◌≡◌, refl, sym, ap, ap₂, ◌∙◌}
-use mathlib.Core.Bool.{true, false, true≢false}
+use mathlib.Core.Path.{◌≡◌, refl, sym, ap, ap₂, subst, ◌∙◌}
+use mathlib.Core.Bool.{Bool, true, false, true≢false}
 use mathlib.Core.List.{List, [], ◌++◌, append_assoc, append-nil}
 use native.Mathlib.Omega.{arith}
-use lib.ListN.{length, drop, length-drop}
+use lib.ListN.{length, take, drop, length-drop}
+use lib.Seq.{drop-drop}
 use Rattle.ledger.specs.declared.Event.{Event}
-use Rattle.account.specs.Step.{step_of}
+use Rattle.account.specs.Step.{Stepped, step_of}
 use Rattle.account.specs.declared.Account.{Account}
-use Rattle.account.specs.declared.Posted.{Posted}
 use Rattle.scanner.specs.Scanner.{got, broken}
 use Rattle.text.specs.Text.{read_event}
 use Rattle.printing.specs.Printing.{Wrote}
@@ -16,7 +16,11 @@ use Rattle.printing.proofs.Placed.{kept, wrote_then}
 use Rattle.transcript.specs.Events.{fold_by, fold_events}
 use Rattle.transcript.specs.Work.{account_line, account_last_line, account_lines}
 use Rattle.transcript.specs.Pieces.{lines_from, remaining, among_events, piece_by, piece_from, Piece}
+use Rattle.std.proofs.Common.{Option, None, take_all}
+use Rattle.ledger.specs.declared.Refusal.{Refusal}
 use Rattle.transcript.specs.declared.Progress.{Progress}
+use Rattle.transcript.specs.Progress.{Reached, reached}
+use Rattle.transcript.proofs.Rests.{event-rest}
 use Rattle.transcript.proofs.Whole.{nothing_written, piece-of, events-left, by-events}
 use Rattle.transcript.proofs.Counts.{fold-got, fold-broken, fold_end, piece-end, piece-pause, piece-broken, piece-got, counts-suffice}
 
@@ -58,7 +62,7 @@ module _ (text : List ℕ) (a : Account) (start k : ℕ) (first out : List ℕ) 
   some : at < length text → 0 < length (drop at text)
   some h = rw (length-drop at text) (omega arith)
 
-  pub turns : (e : Event) (next : ℕ) (q : Posted) (after : List ℕ) (r : ℕ) → at < length text
+  pub turns : (e : Event) (next : ℕ) (q : Stepped) (after : List ℕ) (r : ℕ) → at < length text
       → read_event (drop at text) ≡ got e (drop next text) → at + 14 ≤ next → next ≤ length text → 174 ≤ length out - place
       → q ≡ step_of b e → Wrote out place (account_line (count + 1) q.code q.value q.account.totals) after r → r ≤ place + 114
       → Going text a start k first after q.account next (count + 1) r
@@ -74,17 +78,17 @@ module _ (text : List ℕ) (a : Account) (start k : ℕ) (first out : List ℕ) 
     far = g.far ∙ line-further;
   }
     where
-      bytes : Posted → ℕ
+      bytes : Stepped → ℕ
       bytes p = length (account_line (count + 1) p.code p.value p.account.totals)
 
       line-further : piece_from (length first) text b at count place ≡ piece_from (length first) text q.account next (count + 1) r
       line-further =
           let there : length text - length (drop next text) ≡ next = rw (length-drop next text) (omega arith) in
-          let put : place + bytes (step_of b e) ≡ r = ap (λ (p : Posted). place + bytes p) (sym eq) ∙ sym w.next in
+          let put : place + bytes (step_of b e) ≡ r = ap (λ (p : Stepped). place + bytes p) (sym eq) ∙ sym w.next in
           counts-suffice.pieces (length first) text b at count place
           ∙ piece-got (piece_from (length first) text) (length first) text b at count place h (omega (arith, sized)) e (drop next text) g'
           ∙ ap₂ (λ (x y : ℕ). piece_from (length first) text (step_of b e).account x (count + 1) y) there put
-          ∙ ap (λ (p : Posted). piece_from (length first) text p.account next (count + 1) r) (sym eq)
+          ∙ ap (λ (p : Stepped). piece_from (length first) text p.account next (count + 1) r) (sym eq)
 
       line-by-line : lines_from text b at count ≡ account_line (count + 1) q.code q.value q.account.totals ++ lines_from text q.account next (count + 1)
       line-by-line = rw eq
@@ -93,7 +97,7 @@ module _ (text : List ℕ) (a : Account) (start k : ℕ) (first out : List ℕ) 
 
 -- ---- how it ends
 
-module _ (text : List ℕ) (p : Progress) (first out : List ℕ) (b : Account) (at count place : ℕ) (g : Going text p.account p.at p.count first out b at count place)
+module _ (text : List ℕ) (p : Reached) (first out : List ℕ) (b : Account) (at count place : ℕ) (g : Going text p.account p.at p.count first out b at count place)
     (d : p.done ≡ false) (c : p.code ≡ 0) (counted : p.count ≤ p.at) (roomy : 174 ≤ length first) where
   left-then : (more left : List ℕ) → lines_from text b at count ≡ more ++ left → remaining text p ≡ (g.lines ++ more) ++ left
   left-then more left e = events-left text p d c counted ∙ then-left text p.account p.at p.count first out b at count place g more left e
@@ -103,7 +107,7 @@ module _ (text : List ℕ) (p : Progress) (first out : List ℕ) (b : Account) (
   pauses l h =
       let same : length out ≡ length first = kept g.wrote in
       let far = g.moved (omega arith) in
-      let q : Progress = among_events b at count place false in
+      let q : Reached = among_events b at count place false in
       piece-of text p q
       (sym (by-events text p (length first) d c counted roomy ∙ g.far ∙ counts-suffice.pieces (length first) text b at count place ∙ piece-pause (piece_from (length first) text) (length first) text b at count place l (omega arith)))
       g.wrote
@@ -132,3 +136,26 @@ module _ (text : List ℕ) (p : Progress) (first out : List ℕ) (b : Account) (
   ends after q h w = closes after _ q w
       (fold_end account_lines (fold_events account_lines) (b, count + 1) (drop at text) (rw (length-drop at text) (omega arith)))
       (piece-end (piece_from (length first) text) (length first) text b at count place h ∙ ap (λ (n : ℕ). among_events b at count n true) (sym w.next))
+
+-- room for the last line after the line of an event that breaks the form
+pub room_left : {out mid x : List ℕ} {place r : ℕ} → 174 ≤ length out - place → Wrote out place x mid r → r ≤ place + 114 → r + 60 ≤ length mid
+room_left h w u = omega (arith, kept w)
+
+-- the text from a place on, as a slice
+pub from-place : (text : List ℕ) (at : ℕ) → take (length text - at) (drop at text) ≡ drop at text
+from-place text at = take_all (length text - at) (drop at text) (omega (arith, length-drop at text))
+
+-- where the next event starts
+pub next-event : (text : List ℕ) (at : ℕ) (e : Event) (r : List ℕ) → at < length text → read_event (drop at text) ≡ got e r → read_event (drop at text) ≡ got e (drop (length text - length r) text)
+next-event text at e r h g =
+    let rest = event-rest (drop at text) e r g in
+    let there : drop (length text - length r) text ≡ r =
+    ap (λ (k : ℕ). drop k text) (omega (arith, length-drop at text, rest.1)) ∙ sym (drop-drop (length (drop at text) - length r) at text) ∙ rest.0 in
+    rw (sym there) at g
+
+-- the buffer and the progress that are left are the printer's and the loop's
+pub left-as : {text : List ℕ} {p : Reached} {first : List ℕ} (out : List ℕ) {last : List ℕ} (b : Progress) (n : ℕ) (done : Bool) → last ≡ out → b.refusal ≡ None → b.done ≡ done
+    → Piece text p first out (among_events b.account b.at b.count n done) → Piece text p first last (reached b n)
+left-as {text} {p} {first} out {last} b n done e none d m =
+    let is : reached b n ≡ among_events b.account b.at b.count n done = ap₂ (λ (r : Option Refusal) (x : Bool). reached (record b { refusal = r; done = x }) n) none d in
+    subst (λ (l : List ℕ). Piece text p first l (reached b n)) (sym e) (subst (λ (r : Reached). Piece text p first out r) (sym is) m)

@@ -16,19 +16,19 @@ use Rattle.readings.specs.Readings.{balance_of}
 use Rattle.transcript.specs.Transcript.{transcript, terms_line, WholeTranscript}
 use Rattle.transcript.specs.Work.{account_line}
 use Rattle.transcript.specs.Pieces.{lines_from, remaining, with_length, piece_from, piece_of, begun_of, Piece, Printed, finished, piece_then, Begun}
-use Rattle.transcript.specs.declared.Progress.{Progress}
+use Rattle.transcript.specs.Progress.{Reached}
 
 -- ---- what is still to be printed
 
-pub events-left : (s : List ℕ) (p : Progress) → p.done ≡ false → p.code ≡ 0 → p.count ≤ p.at → remaining s p ≡ lines_from s p.account p.at p.count
+pub events-left : (s : List ℕ) (p : Reached) → p.done ≡ false → p.code ≡ 0 → p.count ≤ p.at → remaining s p ≡ lines_from s p.account p.at p.count
 events-left s p d c h = simp (d, c, le-leb p.count p.at h)
 
 -- terms that are malformed or refused
-pub refusal-left : (s : List ℕ) (p : Progress) → p.done ≡ false → p.count ≤ p.at → (p.code ≡ 0 → ⊥) → remaining s p ≡ terms_line p.code
+pub refusal-left : (s : List ℕ) (p : Reached) → p.done ≡ false → p.count ≤ p.at → (p.code ≡ 0 → ⊥) → remaining s p ≡ terms_line p.code
 refusal-left s p d h n = simp (d, le-leb p.count p.at h, ne_eqb p.code 0 n)
 
 -- more events than bytes
-none_left : (s : List ℕ) (p : Progress) → p.done ≡ false → p.at < p.count → remaining s p ≡ []
+none_left : (s : List ℕ) (p : Reached) → p.done ≡ false → p.at < p.count → remaining s p ≡ []
 none_left s p d h = simp (d, lt-leb p.count p.at h)
 
 -- ---- one piece
@@ -55,7 +55,7 @@ pub nothing_written : (b : List ℕ) → Wrote b 0 [] b 0
 unfolding over
 nothing_written b = record { buffer = refl; next = refl; room = omega arith }
 
-pub piece-of : (s : List ℕ) (p q : Progress) {b x after : List ℕ} → q ≡ piece_of s p (length b) → Wrote b 0 x after q.length → remaining s p ≡ x ++ remaining s q
+pub piece-of : (s : List ℕ) (p q : Reached) {b x after : List ℕ} → q ≡ piece_of s p (length b) → Wrote b 0 x after q.length → remaining s p ≡ x ++ remaining s q
     → (q.done ≡ false → (p.code ≡ 0) × (p.at < q.at) × (q.at ≤ length s) × (length b < q.length + 174) × (q.length ≤ 9 * q.at))
     → Piece s p b after q
 piece-of s p q {b} {x} {after} is w e m = record {
@@ -67,7 +67,7 @@ piece-of s p q {b} {x} {after} is w e m = record {
 }
 
 -- no piece: the buffer is too short, the last piece was printed, or there are more events than bytes
-no-piece : (s b : List ℕ) (p : Progress) (done : Bool) → with_length p 0 done ≡ piece_of s p (length b) → remaining s p ≡ remaining s (with_length p 0 done) → (174 ≤ length b → done ≡ true) → Piece s p b b (with_length p 0 done)
+no-piece : (s b : List ℕ) (p : Reached) (done : Bool) → with_length p 0 done ≡ piece_of s p (length b) → remaining s p ≡ remaining s (with_length p 0 done) → (174 ≤ length b → done ≡ true) → Piece s p b b (with_length p 0 done)
 no-piece s b p done is e d = record {
   progress = is;
   lines = e;
@@ -76,7 +76,7 @@ no-piece s b p done is e d = record {
   more = λ h f. absurd (true≢false (sym (d h) ∙ f));
 }
 
-module _ (s b : List ℕ) (p : Progress) where
+module _ (s b : List ℕ) (p : Reached) where
   pub too_short : length b < 174 → Piece s p b b (with_length p 0 p.done)
   too_short h = no-piece s b p p.done (simp (lt-ltb (length b) 174 h)) refl (λ g. absurd (omega arith))
 
@@ -88,7 +88,7 @@ module _ (s b : List ℕ) (p : Progress) where
     too_many d h = no-piece s b p true (simp (le-ltb (length b) 174 roomy, d, lt-ltb p.at p.count h)) (none_left s p d h) (λ g. refl)
 
 -- the line of terms that are malformed or refused
-pub refused : (s : List ℕ) (p : Progress) {b after : List ℕ} {r : ℕ} → p.done ≡ false → p.count ≤ p.at → (p.code ≡ 0 → ⊥) → 174 ≤ length b
+pub refused : (s : List ℕ) (p : Reached) {b after : List ℕ} {r : ℕ} → p.done ≡ false → p.count ≤ p.at → (p.code ≡ 0 → ⊥) → 174 ≤ length b
     → Wrote b 0 (account_line 0 p.code 0 no-totals) after r → Piece s p b after (with_length p r true)
 unfolding balance_of
 refused s p {b} {after} {r} d h n roomy w =
@@ -100,22 +100,22 @@ refused s p {b} {after} {r} d h n roomy w =
 
 -- ---- how far a piece goes, by where it stands
 
-pub by-events : (s : List ℕ) (p : Progress) (room : ℕ) → p.done ≡ false → p.code ≡ 0 → p.count ≤ p.at → 174 ≤ room
+pub by-events : (s : List ℕ) (p : Reached) (room : ℕ) → p.done ≡ false → p.code ≡ 0 → p.count ≤ p.at → 174 ≤ room
     → piece_of s p room ≡ piece_from room s p.account p.at p.count 0
 by-events s p room d c h roomy = simp (le-ltb room 174 roomy, d, le-ltb p.at p.count h, c)
 
 -- ---- all pieces
 
-printed : (s : List ℕ) (p : Progress) (w : List ℕ) → Printed s p w → w ≡ remaining s p
+printed : (s : List ℕ) (p : Reached) (w : List ℕ) → Printed s p w → w ≡ remaining s p
 printed s _ _ (finished p h) = sym (simp h)
 printed s _ _ (piece_then p q before after v m more) = ap (λ (x : List ℕ). take q.length after ++ x) (printed s q v more) ∙ sym m.lines
 
-pub begun : (s : List ℕ) (p : Progress) → p ≡ begun_of s → remaining s p ≡ transcript s → (p.code ≡ 0 → length s ≤ 65536) → Begun s p
+pub begun : (s : List ℕ) (p : Reached) → p ≡ begun_of s → remaining s p ≡ transcript s → (p.code ≡ 0 → length s ≤ 65536) → Begun s p
 begun s p is e l = record { progress = is; all = e; pieces = λ w x. printed s p w x ∙ e; bounded = l }
 
 -- ---- the whole
 
-module _ (s before after : List ℕ) (p q : Progress) (begins : Begun s p) (m : Piece s p before after q) (roomy : 655360 ≤ length before) (sized : length after ≡ length before) where
+module _ (s before after : List ℕ) (p q : Reached) (begins : Begun s p) (m : Piece s p before after q) (roomy : 655360 ≤ length before) (sized : length after ≡ length before) where
   over-at-once : q.done ≡ true
   over-at-once = decide q.done (λ t. t) (λ f. let g = m.more (omega arith) f in absurd (omega (arith, begins.bounded g.0, g.1)))
 
@@ -135,10 +135,10 @@ module _ (s before after : List ℕ) (p q : Progress) (begins : Begun s p) (m : 
 -- ---- piece after piece comes to an end
 
 -- the bytes that are still to be read, and one more; none after the last piece
-abbrev pub unread : List ℕ → Progress → ℕ
+abbrev pub unread : List ℕ → Reached → ℕ
 unread s p = cond p.done 0 (suc (length s - p.at))
 
-pub reads_on : (s before after : List ℕ) (p q : Progress) → 174 ≤ length before → Piece s p before after q → p.done ≡ false → unread s q < unread s p
+pub reads_on : (s before after : List ℕ) (p q : Reached) → 174 ≤ length before → Piece s p before after q → p.done ≡ false → unread s q < unread s p
 reads_on s before after p q h m d = decide q.done
     (λ t. simp (d, t) (omega arith))
     (λ f. let g = m.more h f in simp (d, f) (omega (arith, g.1, g.2)))

@@ -9,7 +9,7 @@ use Rattle.text.specs.Text.{max_text, read_terms, read_event}
 use Rattle.transcript.specs.Transcript.{terms_line, transcript}
 use Rattle.transcript.specs.Events.{fold_events}
 use Rattle.transcript.specs.Work.{account_line, account_last_line, account_lines}
-use Rattle.transcript.specs.declared.Progress.{Progress}
+use Rattle.transcript.specs.Progress.{Reached}
 
 -- ---- what is still to be printed
 
@@ -17,24 +17,24 @@ use Rattle.transcript.specs.declared.Progress.{Progress}
 abbrev pub lines_from : List ℕ → Account → ℕ → ℕ → List ℕ
 lines_from s a at count = fold_events account_lines (a, count + 1) (drop at s)
 
--- Whether there is more to print. No call leaves more events than bytes; for such a `Progress` nothing is printed.
-abbrev pub unprinted : Progress → Bool
+-- Whether there is more to print. No call leaves more events than bytes; where there are more, nothing is printed.
+abbrev pub unprinted : Reached → Bool
 unprinted p = not p.done && leb p.count p.at
 
-abbrev pub remaining : List ℕ → Progress → List ℕ
+abbrev pub remaining : List ℕ → Reached → List ℕ
 remaining s p = cond (unprinted p) (cond (eqb p.code 0) (lines_from s p.account p.at p.count) (terms_line p.code)) []
 
 -- ---- how far a piece goes
 
-abbrev pub progress_of : Account → ℕ → ℕ → ℕ → ℕ → Bool → Progress
+abbrev pub progress_of : Account → ℕ → ℕ → ℕ → ℕ → Bool → Reached
 progress_of a at count code n done = record { account = a; at = at; count = count; code = code; length = n; done = done }
 
 -- the place of p, with n bytes put
-abbrev pub with_length : Progress → ℕ → Bool → Progress
+abbrev pub with_length : Reached → ℕ → Bool → Reached
 with_length p n done = progress_of p.account p.at p.count p.code n done
 
 -- a place among the events after good terms, with n bytes put
-abbrev pub among_events : Account → ℕ → ℕ → ℕ → Bool → Progress
+abbrev pub among_events : Account → ℕ → ℕ → ℕ → Bool → Reached
 among_events a at count n done = progress_of a at count 0 n done
 
 -- the bytes that an event's line has at most, that the last line has at most, and that both have
@@ -49,7 +49,7 @@ piece_room = event_room + last_room
 
 -- From a place of the text on, in a buffer of `room` bytes, n of them used: lines of events while there is room for one and for the last
 -- line; by `more`, how far it goes from the next event on.
-abbrev pub piece_by : (Account → ℕ → ℕ → ℕ → Progress) → ℕ → List ℕ → Account → ℕ → ℕ → ℕ → Progress
+abbrev pub piece_by : (Account → ℕ → ℕ → ℕ → Reached) → ℕ → List ℕ → Account → ℕ → ℕ → ℕ → Reached
 piece_by more room s a at count n =
     cond (leb (length s) at) (among_events a at count (n + length (account_last_line a.totals)) true)
     (cond (ltb (room - n) piece_room) (among_events a at count n false)
@@ -60,16 +60,16 @@ piece_by more room s a at count n =
     ]))
 
 -- the same, cut off after k events
-unfoldable pub events_piece : ℕ → ℕ → List ℕ → Account → ℕ → ℕ → ℕ → Progress
+unfoldable pub events_piece : ℕ → ℕ → List ℕ → Account → ℕ → ℕ → ℕ → Reached
 events_piece zero room s a at count n = among_events a at count n true
 events_piece (suc k) room s a at count n = piece_by (events_piece k room s) room s a at count n
 
 -- There are no more events than bytes, so nothing is cut off: `transcript::counts_suffice`.
-abbrev pub piece_from : ℕ → List ℕ → Account → ℕ → ℕ → ℕ → Progress
+abbrev pub piece_from : ℕ → List ℕ → Account → ℕ → ℕ → ℕ → Reached
 piece_from room s a at count n = events_piece (suc (length s - at)) room s a at count n
 
 -- the progress after the next piece, in a buffer of `room` bytes
-abbrev pub piece_of : List ℕ → Progress → ℕ → Progress
+abbrev pub piece_of : List ℕ → Reached → ℕ → Reached
 piece_of s p room =
     cond (ltb room piece_room) (with_length p 0 p.done)
     (cond p.done (with_length p 0 p.done)
@@ -79,7 +79,7 @@ piece_of s p room =
 
 -- What a call leaves. The first three clauses fix it: the progress after it, the bytes put, which are the next of those still to be printed,
 -- and the bytes past them. The others follow.
-pub record Piece (s : List ℕ) (p : Progress) (before after : List ℕ) (q : Progress) : Type 0 where
+pub record Piece (s : List ℕ) (p : Reached) (before after : List ℕ) (q : Reached) : Type 0 where
   pub progress : q ≡ piece_of s p (length before)
   -- the piece, and what is still to be printed after it, are what was still to be printed
   pub lines : remaining s p ≡ take q.length after ++ remaining s q
@@ -93,11 +93,11 @@ pub record Piece (s : List ℕ) (p : Progress) (before after : List ℕ) (q : Pr
 
 -- ---- from the first piece to the last
 
-abbrev pub start_of : Terms → ℕ → ℕ → Progress
+abbrev pub start_of : Terms → ℕ → ℕ → Reached
 start_of t at code = progress_of (open_of t).account at 0 code 0 false
 
 -- the progress before the first piece
-abbrev pub begun_of : List ℕ → Progress
+abbrev pub begun_of : List ℕ → Reached
 begun_of s = cond (ltb max_text (length s)) (start_of zero_terms 0 15)
     (elim (read_terms s) [
       | got t r ↦ start_of t (length s - length r) (open_of t).code
@@ -105,12 +105,12 @@ begun_of s = cond (ltb max_text (length s)) (start_of zero_terms 0 15)
     ])
 
 -- The pieces printed one after the other, in whatever buffers, until there is no more to print.
-pub data Printed (s : List ℕ) : Progress → List ℕ → Type 0 where
-  finished : (p : Progress) → unprinted p ≡ false → Printed s p []
-  piece_then : (p q : Progress) (before after w : List ℕ) → Piece s p before after q → Printed s q w → Printed s p (take q.length after ++ w)
+pub data Printed (s : List ℕ) : Reached → List ℕ → Type 0 where
+  finished : (p : Reached) → unprinted p ≡ false → Printed s p []
+  piece_then : (p q : Reached) (before after w : List ℕ) → Piece s p before after q → Printed s q w → Printed s p (take q.length after ++ w)
 
 -- What `begin` answers, and what follows: the whole transcript is still to be printed, and whatever the pieces are, together they are it.
-pub record Begun (s : List ℕ) (p : Progress) : Type 0 where
+pub record Begun (s : List ℕ) (p : Reached) : Type 0 where
   pub progress : p ≡ begun_of s
   pub all : remaining s p ≡ transcript s
   pub pieces : (w : List ℕ) → Printed s p w → w ≡ transcript s

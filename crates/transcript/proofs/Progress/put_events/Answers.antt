@@ -1,0 +1,79 @@
+-- `Progress::put_events` meets its contract. Assumes nothing.
+use Rattle.std.proofs.Common.{rules, refl, sym, ap, ◌∙◌, true, arith}
+use lib.ListN.{length-drop}
+use Rattle.account.specs.Step.{stepped_of}
+use Rattle.printing.specs.Printer.{Writes}
+use Rattle.transcript.specs.Progress.{code_or_0}
+use Rattle.transcript.proofs.Turn.{begins, sized, turns, pauses, stops, ends, room_left, from-place, next-event, left-as}
+use Rattle.transcript.proofs.Progress.put_events.Goals.{else-loop-self-test, then-loop-self-test+else-page-lt-PIECE_ROOM+in_default}
+use Rattle.transcript.proofs.Progress.put_events.Goals as goal
+
+pub loop-self-init : goal.loop-self-init
+loop-self-init c = let r = c.requires in (refl, r.1, r.0, begins _ _ _ _ _ r.3 r.2)
+
+pub overflow_sub-page : goal.overflow_sub-page
+overflow_sub-page c = omega (arith, c.loop-self.invariant.3.room)
+
+pub returns-then-page-lt-PIECE_ROOM : goal.returns-then-page-lt-PIECE_ROOM
+returns-then-page-lt-PIECE_ROOM c =
+    let r = c.requires in
+    let i = c.loop-self.invariant in
+    left-as c.loop-self.page.out.now c.loop-self.self _ _ (search (rules, sym i.0)) i.1 i.2
+    (pauses _ _ _ _ _ _ _ _ i.3 r.0 (ap code_or_0 r.1) r.2 r.3 c.loop-self-test.true c.if-page-lt-PIECE_ROOM.true)
+
+pub slice_bounds-read_event-count : goal.slice_bounds-read_event-count
+slice_bounds-read_event-count c = omega (arith, c.loop-self-test.true)
+
+pub overflow_add-self : goal.overflow_add-self
+overflow_add-self c = omega (arith, c.loop-self.invariant.3.counted, c.loop-self-test.true)
+
+pub put_event-requires : goal.put_event-requires
+put_event-requires c = omega (arith, c.loop-self.invariant.3.room, c.if-page-lt-PIECE_ROOM.false)
+
+pub overflow_sub-self : goal.overflow_sub-self
+overflow_sub-self c =
+    let e = rw (from-place c.args.text.now c.loop-self.self.at) at c.in-Some.ensures in
+    omega (arith, e.shorter, length-drop c.loop-self.self.at c.args.text.now)
+
+pub overflow_add-self-in-loop-self : goal.overflow_add-self-in-loop-self
+overflow_add-self-in-loop-self c = omega (arith, c.loop-self.invariant.3.counted, c.loop-self-test.true)
+
+pub put_event-requires-in-loop-self : goal.put_event-requires-in-loop-self
+put_event-requires-in-loop-self c = omega (arith, c.loop-self.invariant.3.room, c.if-page-lt-PIECE_ROOM.false)
+
+pub loop-self-smaller : goal.loop-self-smaller
+loop-self-smaller c =
+    let e = rw (from-place c.args.text.now c.loop-self.self.at) at c.in-Some.ensures in
+    omega (arith, e.shorter, c.loop-self-test.true, length-drop c.loop-self.self.at c.args.text.now)
+
+pub loop-self-preserved : goal.loop-self-preserved
+loop-self-preserved c =
+    let i = c.loop-self.invariant in
+    let line = c.put_event-in-loop-self.ensures in
+    let e = rw (from-place c.args.text.now c.loop-self.self.at) at c.in-Some.ensures in
+    (line.printed.same ∙ i.0, i.1, i.2,
+    turns _ _ _ _ _ _ _ _ _ _ i.3 _ _ (stepped_of c.post-answer.new.self c.post-answer.result) _ _ c.loop-self-test.true
+    (next-event _ _ _ _ c.loop-self-test.true e.read) (omega (arith, e.shorter, length-drop c.loop-self.self.at c.args.text.now)) (omega arith)
+    c.if-page-lt-PIECE_ROOM.false c.post-answer.ensures line.printed.wrote line.upper_bound)
+
+pub put_last_line-requires : goal.put_last_line-requires
+put_last_line-requires c = elim c.loop-self-test.branch [
+      | else-loop-self-test w ↦ rw w.page-is c.loop-self.invariant.3.room
+      | then-loop-self-test+else-page-lt-PIECE_ROOM+in_default w ↦ rw w.page-is (room_left w.if-page-lt-PIECE_ROOM.false w.put_event.ensures.printed.wrote w.put_event.ensures.upper_bound)
+    ]
+
+pub returns : goal.returns
+returns c =
+    let r = c.requires in
+    let i = c.loop-self.invariant in
+    let p = c.put_last_line.new.page in
+    elim c.loop-self-test.branch [
+      | else-loop-self-test w ↦
+          let v : Writes c.loop-self.page _ p = rw w.page-is at c.put_last_line.ensures in
+          left-as p.out.now (record c.loop-self.self { done = true }) p.at true (search (rules, sym (v.same ∙ i.0))) i.1 refl
+          (ends _ _ _ _ _ _ _ _ i.3 r.0 (ap code_or_0 r.1) r.2 r.3 _ _ w.loop-self-test.false v.wrote)
+      | then-loop-self-test+else-page-lt-PIECE_ROOM+in_default w ↦
+          let v : Writes w.put_event.new.page _ p = rw w.page-is at c.put_last_line.ensures in
+          left-as p.out.now (record c.loop-self.self { done = true }) p.at true (search (rules, sym (v.same ∙ w.put_event.ensures.printed.same ∙ i.0))) i.1 refl
+          (stops _ _ _ _ _ _ _ _ i.3 r.0 (ap code_or_0 r.1) r.2 r.3 _ _ _ _ w.loop-self-test.true w.if-page-lt-PIECE_ROOM.false (rw (from-place c.args.text.now c.loop-self.self.at) at w.in_default.ensures.read) w.put_event.ensures.printed.wrote v.wrote)
+    ]
