@@ -1,77 +1,106 @@
 -- The days of a month, as `calendar::days_of` answers them, and the summary over them.
 -- Assumes nothing.
-use Prim.Native.Nat.{ℕ, ◌≤◌, ◌<◌}
+use Prim.Native.Nat.{ℕ, ◌+◌, ◌*◌, ◌≤◌, ◌<◌}
 use native.Mathlib.Omega.{arith}
-use mathlib.Core.Path.{◌≡◌, sym}
-use mathlib.Core.Bool.{true, false, and-false}
+use mathlib.Core.Path.{◌≡◌, sym, ◌∙◌}
+use mathlib.Core.Bool.{Bool, true, false, ◌&&◌, and-false}
+use mathlib.Core.List.{List}
+use lib.ListN.{get_or}
 use lib.Dec.{ltb, leb, eqb}
-use borrow.Author.Tests.{lt-ltb, le-leb, leb-true, leb-false, ltb-true, eqb-true, eqb-false}
+use borrow.Author.Tests.{lt-ltb, le-leb, leb-true, leb-false, ltb-true, eqb-true, eqb-false, ne_eqb}
+use Rattle.core.specs.declared.iter.ranges.Range.{Range}
 use Rattle.calendar.specs.declared.Date.{Date}
-use Rattle.calendar.specs.declared.Days.{Days}
-use Rattle.calendar.specs.Calendar.{date_on, month_from, is_day, opens, MonthAnswer}
+use Rattle.calendar.specs.Calendar.{date_on, month_from, is_day, MonthDays}
 use Rattle.calendar.specs.Days.{any_day}
 use Rattle.calendar.proofs.Laws.{month-limit}
-use Rattle.ledger.specs.Months.{no_summary}
+use Rattle.ledger.specs.declared.Counted.{Counted}
+use Rattle.ledger.specs.declared.Used.{Used}
+use Rattle.ledger.specs.declared.Summary.{Summary}
+use Rattle.ledger.specs.Months.{average_of, no_summary}
 use Rattle.ledger.proofs.Cases.{decide}
 use Rattle.moves.specs.Moves.{is_account}
 use Rattle.account.specs.declared.Account.{Account}
-use Rattle.months.specs.Summary.{in_month_of, charges_of, summary_by, summary_of}
-use Rattle.months.specs.Work.{span, paid_by, used_by, figures_of}
+use Rattle.months.specs.Summary.{in_month_of, payment_kept, payment_reversed, counted_by, metered_by, estimated_by, charges_of, max_charge_sum, summary_by, summary_of}
+use Rattle.months.specs.Work.{span}
 use Rattle.months.proofs.Sums.{any_none, any_some}
 
-pub inside : (from to k : ℕ) → from ≤ k → k < to → span from to k ≡ true
-inside from to k h g = simp (le-leb from k h, lt-ltb k to g)
+inside : (r : Range ℕ) (k : ℕ) → r.start ≤ k → k < r.end → span r k ≡ true
+inside r k h g = simp (le-leb r.start k h, lt-ltb k r.end g)
 
-outside : (from to k : ℕ) → (from ≤ k → k < to → ⊥) → span from to k ≡ false
-outside from to k n = decide (leb from k)
-    (λ y. decide (ltb k to) (λ z. absurd (n (leb-true from k y) (ltb-true k to z))) (λ f. simp (f, and-false)))
+outside : (r : Range ℕ) (k : ℕ) → (r.start ≤ k → k < r.end → ⊥) → span r k ≡ false
+outside r k n = decide (leb r.start k)
+    (λ y. decide (ltb k r.end) (λ z. absurd (n (leb-true r.start k y) (ltb-true k r.end z))) (λ f. simp (f, and-false)))
     (λ f. simp f)
 
-module _ (o : Date) (m : ℕ) (r : Days) (g : MonthAnswer o m r) where
+never : (o : Date) (m : ℕ) → ((k : ℕ) → is_day o k ≡ true → month_from o (date_on o k) ≡ m → ⊥) → (k : ℕ) → in_month_of o m k ≡ false
+unfolding in_month_of
+never o m n k = decide (is_day o k) (λ d. simp (d, ne_eqb (month_from o (date_on o k)) m (n k d))) (λ f. simp f)
+
+module _ (o : Date) (m : ℕ) (r : Range ℕ) (g : MonthDays o m r) where
   -- where the calendar has the day
-  of-day : (k : ℕ) → is_day o k ≡ true → in_month_of o m k ≡ span r.from r.to k
+  of-day : (k : ℕ) → is_day o k ≡ true → in_month_of o m k ≡ span r k
   unfolding in_month_of
   of-day k d = decide (eqb (month_from o (date_on o k)) m)
-      (λ y. let b = (g.days k d).0 (eqb-true (month_from o (date_on o k)) m y) in simp (d, y) (sym (inside r.from r.to k b.0 b.1)))
-      (λ f. simp (d, f) (sym (outside r.from r.to k (λ a b. eqb-false (month_from o (date_on o k)) m f ((g.days k d).1 (a, b))))))
+      (λ y. let b = (g.days k d).0 (eqb-true (month_from o (date_on o k)) m y) in simp (d, y) (sym (inside r k b.0 b.1)))
+      (λ f. simp (d, f) (sym (outside r k (λ a b. eqb-false (month_from o (date_on o k)) m f ((g.days k d).1 (a, b))))))
 
-  -- where it has not
-  of_none : (k : ℕ) → is_day o k ≡ false → in_month_of o m k ≡ span r.from r.to k
+  day-of : (k : ℕ) → k < r.end → is_day o k ≡ true
+  day-of k h = simp (g.open_is, le-leb k 399 (omega (arith, g.limit)))
+
+  in_span : (k : ℕ) → in_month_of o m k ≡ span r k
   unfolding in_month_of
-  of_none k f = simp f (sym (outside r.from r.to k (λ a b. decide (opens o)
-      (λ y. omega (arith, g.limit, leb-false k 399 (simp y at f)))
-      (λ n. omega (arith, g.closed n)))))
+  in_span k = decide (is_day o k)
+      (of-day k)
+      (λ f. simp f (sym (outside r k (λ a b. cc (day-of k b)))))
 
-  in_span : (k : ℕ) → in_month_of o m k ≡ span r.from r.to k
-  in_span k = decide (is_day o k) (of-day k) (of_none k)
-
-  spans : in_month_of o m ≡ span r.from r.to
+  spans : in_month_of o m ≡ span r
   spans = λ i k. in_span k i
 
-  none : r.from ≡ r.to → any_day (in_month_of o m) 400 ≡ false
-  none e = rw spans (any_none _ 400 (λ k h. outside r.from r.to k (λ a b. omega arith)))
+  some : any_day (in_month_of o m) 400 ≡ true
+  some = rw spans (any_some _ 400 r.start (omega (arith, g.order, g.limit)) (inside r r.start (omega arith) g.order))
 
-  some : (r.from ≡ r.to → ⊥) → any_day (in_month_of o m) 400 ≡ true
-  some n = rw spans (any_some _ 400 r.from (omega (arith, g.order, g.limit)) (inside r.from r.to r.from (omega arith) (omega (arith, g.order))))
+  pub month-small : m < 15
+  month-small =
+      let d = day-of r.start g.order in
+      omega (arith, month-limit o r.start d, (g.days r.start d).1 (omega arith, g.order))
 
-  pub month-small : (r.from ≡ r.to → ⊥) → m < 15
-  month-small n =
-      let h : r.from < r.to = omega (arith, g.order) in
-      decide (is_day o r.from)
-      (λ d. omega (arith, month-limit o r.from d, (g.days r.from d).1 (omega arith, h)))
-      (λ f. decide (opens o)
-      (λ y. omega (arith, g.limit, leb-false r.from 399 (simp y at f)))
-      (λ c. omega (arith, g.closed c)))
+-- the figures where no sum of charges is past the bound
+abbrev pub figures_over : Counted → Counted → Used → Used → List ℕ → Summary
+figures_over kept reversed metered_use estimated_use charges = record {
+  code = 0;
+  kept = kept;
+  reversed = reversed;
+  metered = metered_use;
+  estimated = estimated_use;
+  charges = charges;
+  average = average_of (metered_use.cost + estimated_use.cost + get_or charges 0 0 + get_or charges 1 0) (metered_use.wh + estimated_use.wh);
+  missing = eqb (metered_use.wh + estimated_use.wh) 0;
+}
 
 pub summary-other : (a : Account) (m : ℕ) → is_account a.terms a.totals ≡ false → no_summary 1 ≡ summary_of a m
 summary-other a m f = rw f
 
-module _ (a : Account) (m : ℕ) (r : Days) (g : MonthAnswer a.terms.opened m r) (i : is_account a.terms a.totals ≡ true) where
-  pub summary-none : r.from ≡ r.to → no_summary 3 ≡ summary_of a m
+module _ (a : Account) (m : ℕ) (i : is_account a.terms a.totals ≡ true) where
+  pub summary-none : ((k : ℕ) → is_day a.terms.opened k ≡ true → month_from a.terms.opened (date_on a.terms.opened k) ≡ m → ⊥) → no_summary 3 ≡ summary_of a m
   unfolding summary_by
-  summary-none e = rw (i, none a.terms.opened m r g e)
+  summary-none n =
+      let e : any_day (in_month_of a.terms.opened m) 400 ≡ false = any_none _ 400 (λ k h. never a.terms.opened m n k) in
+      rw (i, e)
 
-  pub summary-some : (r.from ≡ r.to → ⊥)
-      → figures_of (paid_by (span r.from r.to) a.payments a.totals.count) (used_by (span r.from r.to) a.days 400) (charges_of a.charges m) ≡ summary_of a m
-  unfolding summary_by figures_of paid_by used_by
-  summary-some n = rw (i, some a.terms.opened m r g n, spans a.terms.opened m r g)
+  module _ (r : Range ℕ) (g : MonthDays a.terms.opened m r) where
+    abbrev small : Bool
+    small = leb (get_or a.charges (5 * m) 0) max_charge_sum && leb (get_or a.charges (5 * m + 1) 0) max_charge_sum
+
+    pub summary-over : small ≡ false → no_summary 1 ≡ summary_of a m
+    unfolding summary_by
+    summary-over f = rw (i, some a.terms.opened m r g, f)
+
+    pub summary-some : small ≡ true
+        → figures_over
+        (counted_by (span r) payment_kept a.payments a.totals.count)
+        (counted_by (span r) payment_reversed a.payments a.totals.count)
+        (metered_by (span r) a.days 400)
+        (estimated_by (span r) a.days 400)
+        (charges_of a.charges m) ≡ summary_of a m
+    unfolding summary_by
+    summary-some t = rw (i, some a.terms.opened m r g, spans a.terms.opened m r g, t)

@@ -26,7 +26,7 @@ use Rattle.months.proofs.Sums.{total-none, total-rest}
 
 -- ---- payments
 
-pub kept-as : (b : Bool) (p : Payment) → beq p.reversed b ≡ is_kept_as b p
+kept-as : (b : Bool) (p : Payment) → beq p.reversed b ≡ is_kept_as b p
 kept-as true p = elim p.reversed as (λ x. beq x true ≡ x) [ true ↦ refl | false ↦ refl ]
 kept-as false p = elim p.reversed as (λ x. beq x false ≡ not x) [ true ↦ refl | false ↦ refl ]
 
@@ -35,17 +35,21 @@ module _ (q : ℕ → Bool) (b : Bool) (l : List Payment) where
   unfolding payments_by total
   paid-none c h k = record { count = h.0 k; sum = h.1 k }
 
-  module _ (n : ℕ) (c : Counted) (e : c ≡ counted_by q (is_kept_as b) l n) where
-    abbrev pub here : Payment
-    here = get_or l n no_payment
-
-    pub paid-in : q here.day ≡ true → is_kept_as b here ≡ true → record { count = c.count + 1; sum = c.sum + here.amount } ≡ counted_by q (is_kept_as b) l (n + 1)
+  -- the payment at n, as the code reads it
+  module _ (n : ℕ) (c : Counted) (e : c ≡ counted_by q (is_kept_as b) l n) (p : Payment) (h : p ≡ get_or l n no_payment) where
+    pub paid-in : q p.day ≡ true → beq p.reversed b ≡ true → record { count = c.count + 1; sum = c.sum + p.amount } ≡ counted_by q (is_kept_as b) l (n + 1)
     unfolding payments_by total
-    paid-in y z = rw (add-one n) (simp (e, y, z))
+    paid-in y z = rw (add-one n, sym h) (simp (e, y, sym (kept-as b p) ∙ z))
 
-    pub paid-out : (q here.day && is_kept_as b here) ≡ false → c ≡ counted_by q (is_kept_as b) l (n + 1)
+    paid-out : (q p.day && is_kept_as b p) ≡ false → c ≡ counted_by q (is_kept_as b) l (n + 1)
     unfolding payments_by total
-    paid-out f = rw (add-one n) (simp (e, f, add-zero))
+    paid-out f = rw (add-one n, sym h) (simp (e, f, add-zero))
+
+    pub paid-elsewhere : q p.day ≡ false → c ≡ counted_by q (is_kept_as b) l (n + 1)
+    paid-elsewhere f = paid-out (simp f)
+
+    pub paid-other : beq p.reversed b ≡ false → c ≡ counted_by q (is_kept_as b) l (n + 1)
+    paid-other f = paid-out (simp (sym (kept-as b p) ∙ f, and-false))
 
 -- ---- usage days
 

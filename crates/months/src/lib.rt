@@ -2,7 +2,7 @@
 // It uses the calendar, the ledger, the moves and the account. The promise says the figures twice: off the record, and in the ledger's terms.
 #![tactic(auto)]
 
-ghost use Rattle.std.specs.Prelude.{◌≡◌, ◌+◌, ◌*◌, ◌≤◌, ◌<◌, cond, eqb, length};
+ghost use Rattle.std.specs.Prelude.{◌≡◌, ◌+◌, ◌*◌, ◌≤◌, ◌<◌, cond, eqb};
 ghost use Rattle.calendar.specs.Calendar.{day_count, month_count};
 ghost use Rattle.ledger.specs.Rules.{max_payments};
 ghost use Rattle.ledger.specs.Months.{average_of};
@@ -10,21 +10,21 @@ ghost use Rattle.ledger.specs.Refusals.{average_or_0, is_missing, summary_of};
 ghost use Rattle.months.specs.Summary.{counted_by, charges_of, IsSummary};
 ghost use Rattle.months.specs.Work.{max_field, span, is_kept_as, used_on, used_by, max_averaged};
 
-use account::{Account, UsageDays};
+use account::{Account, Payments, UsageDays};
 use ledger::{CHARGE_KIND_COUNT, Counted, Figures, KindSums, Refusal, Used};
-use moves::{Charges, Day, Payment, Usage};
+use moves::{Charges, Day, Usage};
 use std::ops::Range;
 
 // No list of charges takes a sum past this: a record that has one, of kind 1 or 2, is no account of this software's.
 const MAX_CHARGE_SUM: u64 = 1099511627776;
 
 // The payments of those days that are reversed, or those that are not.
-fn paid_in(payments: &[Payment], days: &Range<u32>, reversed: bool) -> Counted
-    requires { length payments.now ≤ max_payments }
-    ensures { result ≡ counted_by (span days.now) (is_kept_as reversed) payments.now (length payments.now) }
+fn paid_in(payments: &Payments, count: u32, days: &Range<u32>, reversed: bool) -> Counted
+    requires { count ≤ max_payments }
+    ensures { result ≡ counted_by (span days.now) (is_kept_as reversed) payments.now count }
 {
     let mut paid = Counted::default();
-    for p in payments {
+    for p in &payments[..count as usize] {
         if p.reversed == reversed && days.contains(&p.day) {
             paid.count += 1;
             paid.sum += p.amount as u64;
@@ -94,20 +94,22 @@ pub fn summary(a: &Account, m: u32) -> Result<Figures, Refusal>
     if !moves::is_account(a.terms, a.totals) {
         return Err(Refusal::Terms);
     }
-    let days = calendar::days_of(a.terms.opened, m).ok_or(Refusal::Limits)?;
+    let Some(days) = calendar::days_of(a.terms.opened, m) else {
+        return Err(Refusal::Limits);
+    };
     let charges = charges_in(&a.charges, m);
     let delivery = charges[0];
     let tax = charges[1];
     if delivery > MAX_CHARGE_SUM || tax > MAX_CHARGE_SUM {
         return Err(Refusal::Terms);
     }
-    let payments = &a.payments[..a.totals.count as usize];
+    let count = a.totals.count;
     let metered = used_in(&a.days, &days, true);
     let estimated = used_in(&a.days, &days, false);
     let cost = metered.cost + estimated.cost + delivery + tax;
     Ok(Figures {
-        kept: paid_in(payments, &days, false),
-        reversed: paid_in(payments, &days, true),
+        kept: paid_in(&a.payments, count, &days, false),
+        reversed: paid_in(&a.payments, count, &days, true),
         metered,
         estimated,
         charges,

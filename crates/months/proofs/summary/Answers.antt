@@ -1,32 +1,48 @@
--- `months::summary` meets its contract: off the record, and so in the ledger's terms.
--- Assumes nothing.
-use mathlib.Core.Path.{sym, ◌∙◌}
+-- Off the record, and so in the ledger's terms.
+use Rattle.std.proofs.Common.{arith, sym, ◌∙◌}
+use Rattle.std.proofs.lemmas.Bool.Decides.{nat_tests}
 use Rattle.moves.proofs.Early.{in_reach}
-use Rattle.months.proofs.Span.{month-small, summary-other, summary-none, summary-some}
+use Rattle.months.proofs.Span.{month-small, summary-other, summary-none, summary-over, summary-some}
 use Rattle.months.proofs.Agrees.{promised}
 use Rattle.months.proofs.summary.Goals as goal
 
 pub returns-then-not-is_account : goal.returns-then-not-is_account
 returns-then-not-is_account c =
     let a = c.args in
-    let e = c.nothing.ensures ∙ summary-other a.a a.m (sym c.is_account.ensures ∙ c.if-not-is_account.true) in
-    promised a.a a.m _ e
+    promised a.a.now a.m _ (summary-other a.a.now a.m (sym c.if-not-is_account.ensures))
 
-pub returns-then-days : goal.returns-then-days
-returns-then-days c =
+pub returns-in_default : goal.returns-in_default
+returns-in_default c =
     let a = c.args in
-    let e = c.nothing-then-days.ensures ∙ summary-none a.a a.m _ c.days_of-days.ensures (sym c.is_account.ensures ∙ c.if-not-is_account.false) c.if-days.true in
-    promised a.a a.m _ e
-
-pub paid_in-paid-requires : goal.paid_in-paid-requires
-paid_in-paid-requires c = (in_reach _ _ (sym c.is_account.ensures ∙ c.if-not-is_account.false)).count
+    promised a.a.now a.m _ (summary-none a.a.now a.m (sym c.if-not-is_account.ensures) c.in_default.ensures)
 
 pub charges_in-charges-requires : goal.charges_in-charges-requires
-charges_in-charges-requires c = month-small _ _ _ c.days_of-days.ensures c.if-days.false
+charges_in-charges-requires c = month-small _ _ _ c.in-Some.ensures
+
+pub returns-then-delivery-gt-MAX_CHARGE_SUM : goal.returns-then-delivery-gt-MAX_CHARGE_SUM
+returns-then-delivery-gt-MAX_CHARGE_SUM c =
+    let a = c.args in
+    let e = rw c.charges_in-charges.ensures at c.then-delivery-gt-MAX_CHARGE_SUM.either in
+    promised a.a.now a.m _ (summary-over a.a.now a.m (sym c.if-not-is_account.ensures) _ c.in-Some.ensures (grind (arith, nat_tests)))
+
+pub paid_in-requires : goal.paid_in-requires
+paid_in-requires c = (in_reach _ _ (sym c.if-not-is_account.ensures)).count
+
+pub paid_in-requires-2 : goal.paid_in-requires-2
+paid_in-requires-2 c = (in_reach _ _ (sym c.if-not-is_account.ensures)).count
 
 pub returns : goal.returns
 returns c =
-    let a = c.args in
-    let i = sym c.is_account.ensures ∙ c.if-not-is_account.false in
-    let e = (rw (c.charges_in-charges.ensures, c.used_in-used.ensures.value, c.paid_in-paid.ensures) at c.figures.ensures) ∙ summary-some a.a a.m _ c.days_of-days.ensures i c.if-days.false in
-    promised a.a a.m _ e
+    let a = c.args.a.now in
+    let i = sym c.if-not-is_account.ensures in
+    let m = c.used_in-metered.ensures.value in
+    let u = c.used_in-estimated.ensures.value in
+    let s = c.charges_in-charges.ensures in
+    let kept = c.paid_in.ensures in
+    let reversed = c.paid_in-2.ensures in
+    let v = rw (m, u, s) at c.average.ensures.value in
+    let w = rw (m, u) at c.average.ensures.missing in
+    let delivery = rw s at c.if-delivery-gt-MAX_CHARGE_SUM.false in
+    let tax = rw s at c.if-tax-gt-MAX_CHARGE_SUM.false in
+    promised a c.args.m _ ((λ k. record { code = 0; kept = kept k; reversed = reversed k; metered = m k; estimated = u k; charges = s k; average = v k; missing = w k })
+    ∙ summary-some a c.args.m i _ c.in-Some.ensures (grind (arith, nat_tests)))
