@@ -1,12 +1,11 @@
-use mathlib.Core.Path.{sym, ◌∙◌}
-use Rattle.moves.proofs.Ways.{yes, no}
+use Rattle.std.proofs.Common.{sym, ◌∙◌}
 use Rattle.image.specs.Image.{image_after}
 use Rattle.image.proofs.image_after.Goals as goal
 
-pub returns-then-not-is_image : goal.returns-then-not-is_image
+pub returns-then-is_image : goal.returns-then-is_image
 unfolding image_after
-returns-then-not-is_image c = sym (no _ _ _ (sym c.is_image.ensures ∙ c.if-not-is_image.true))
+returns-then-is_image c = rw (sym c.is_image.ensures ∙ c.if-is_image.true) c.from.ensures
 
-pub returns : goal.returns
+pub returns-else-is_image : goal.returns-else-is_image
 unfolding image_after
-returns c = c.image_of.ensures ∙ sym (yes _ _ _ (sym c.is_image.ensures ∙ c.if-not-is_image.false))
+returns-else-is_image c = rw (sym c.is_image.ensures ∙ c.if-is_image.false)
