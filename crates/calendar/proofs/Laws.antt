@@ -9,10 +9,11 @@ use lib.ListN.{get_or-eq_default}
 use lib.Dec.{leb, ltb, eqb}
 use Rattle.std.specs.Prelude.{Some, None}
 use borrow.Author.Tests.{ltb-true, ltb-false, leb-true, leb-false, eqb-true, eqb-false, le-leb}
+use Rattle.std.proofs.lemmas.Bool.{and_parts}
 use Rattle.calendar.specs.Calendar.{date, leap_year, month_days, month_length, date_exists, next_of, date_on, total, length_after}
 use Rattle.calendar.specs.Calendar.{months_after, days_after, weekday_after, weekday_of, month_from, is_date_until, opens, is_in_reach, is_day, date_answer, weekday_answer, weekday_on}
 use Rattle.calendar.specs.declared.Date.{Date}
-use Rattle.calendar.proofs.Sums.{decide, and_left, and_right, leb-and, every, every-at, total_mono, Within, within-mono, within-unique}
+use Rattle.calendar.proofs.Sums.{decide, leb-and, every, every-at, total_mono, Within, within-mono, within-unique}
 
 -- ---- the lengths of the months
 
@@ -41,10 +42,10 @@ length-after : (i : ℕ) → Length (length_after i)
 unfolding length_after
 length-after i = month-length (2000 + i / 12) (i % 12 + 1) (omega arith) (omega arith)
 
-pub sum-limit : (i : ℕ) → total length_after i ≤ 31 * i
+pub sum_limit : (i : ℕ) → total length_after i ≤ 31 * i
 unfolding total
-sum-limit zero = omega arith
-sum-limit (suc i) = omega (arith, sum-limit i, length-after i)
+sum_limit zero = omega arith
+sum_limit (suc i) = omega (arith, sum_limit i, length-after i)
 
 -- there are no months after 12, and none before 1
 pub no-days : (leap : Bool) (m : ℕ) → 12 < m → month_days leap m ≡ 0
@@ -167,10 +168,10 @@ pub month-holds : (d : Date) → Real d → Within length_after (months_after d)
 unfolding days_after total
 month-holds d r = omega (arith, index-length d r)
 
-pub days-limit : (d : Date) → is_in_reach d ≡ true → days_after d < 37944
-days-limit d e =
+pub days_limit : (d : Date) → is_in_reach d ≡ true → days_after d < 37944
+days_limit d e =
     let r = reached-real d e in
-    omega (arith, month-holds d r.real, sum-limit (suc (months_after d)))
+    omega (arith, month-holds d r.real, sum_limit (suc (months_after d)))
 
 -- dates with the same number of days after 2000-01-01 are the same
 pub same-day : (a b : Date) → Real a → Real b → days_after a ≡ days_after b → a ≡ b
@@ -235,7 +236,7 @@ pub record InLimits (o : Date) (k : ℕ) : Type 0 where
   pub limit : k ≤ 399
 
 pub day-limits : (o : Date) (k : ℕ) → is_day o k ≡ true → InLimits o k
-day-limits o k e = let t = and_left (opens o) (leb k 399) e in record { open_is = t; opened = opens-real o t; limit = leb-true k 399 (and_right (opens o) (leb k 399) e) }
+day-limits o k e = let t = and_parts (opens o) (leb k 399) e in record { open_is = t.0; opened = opens-real o t.0; limit = leb-true k 399 t.1 }
 
 module _ (o : Date) (r : Real o) where
   -- day k lies in its month
@@ -284,11 +285,6 @@ pub answer-on : (o : Date) (k : ℕ) (d : Date) → date_answer o k ≡ Some d �
 answer-on o k d e = decide (is_day o k)
     (λ t. let f : Some (date_on o k) ≡ Some d = rw t at e in record { is-day = t; date = cc })
     (λ t. let f : None ≡ Some d = rw t at e in absurd (cc))
-
-pub answer-outside : (o : Date) (k : ℕ) → date_answer o k ≡ None → is_day o k ≡ false
-answer-outside o k e = decide (is_day o k)
-    (λ t. let f : Some (date_on o k) ≡ None = rw t at e in absurd (cc))
-    (λ t. t)
 
 pub answer_month : (o d : Date) (k : ℕ) → date_answer o k ≡ Some d → month_from o d ≤ 14
 answer_month o d k e = let a = answer-on o k d e in rw a.date at (month-limit o k a.is-day)

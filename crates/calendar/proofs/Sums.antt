@@ -9,6 +9,7 @@ use native.Mathlib.Omega.{arith}
 use lib.ListN.{get_or}
 use lib.Dec.{leb, eqb}
 use borrow.Author.Tests.{leb-true, leb-false, eqb-true}
+use Rattle.std.proofs.lemmas.Bool.{and_parts}
 use Rattle.calendar.specs.Calendar.{total}
 
 -- each way a test can come out
@@ -27,7 +28,7 @@ and_right false b e = absurd (false≢true e)
 
 -- a test that begins with an order
 pub leb-and : (a b : ℕ) (t : Bool) → leb a b && t ≡ true → (a ≤ b) × (t ≡ true)
-leb-and a b t e = (leb-true a b (and_left (leb a b) t e), and_right (leb a b) t e)
+leb-and a b t e = let p = and_parts (leb a b) t e in (leb-true a b p.0, p.1)
 
 -- the test p passes at every number below n
 abbrev pub every : (ℕ → Bool) → ℕ → Bool
@@ -37,16 +38,9 @@ every p (suc n) = p n && every p n
 pub every-at : (p : ℕ → Bool) (n : ℕ) → every p n ≡ true → (k : ℕ) → k < n → p k ≡ true
 every-at p zero e k h = absurd (not-suc-le-zero h)
 every-at p (suc n) e k h = elim (eq-or-lt_of_le (le_of_suc-le-suc h)) [
-  | inl s ↦ subst⁻¹ (λ (j : ℕ). p j ≡ true) s (and_left (p n) (every p n) e)
-  | inr l ↦ every-at p n (and_right (p n) (every p n) e) k l
+  | inl s ↦ subst⁻¹ (λ (j : ℕ). p j ≡ true) s (and_parts (p n) (every p n) e).0
+  | inr l ↦ every-at p n (and_parts (p n) (every p n) e).1 k l
 ]
-
--- the list l begins with the first n values of the function f
-abbrev pub is-table : (ℕ → ℕ) → List ℕ → ℕ → Bool
-is-table f l n = every (λ (k : ℕ). eqb (get_or l k 0) (f k)) n
-
-pub table_is : (f : ℕ → ℕ) (l : List ℕ) (n : ℕ) → is-table f l n ≡ true → (k : ℕ) → k < n → get_or l k 0 ≡ f k
-table_is f l n e k h = eqb-true (get_or l k 0) (f k) (every-at (λ (k : ℕ). eqb (get_or l k 0) (f k)) n e k h)
 
 -- ---- sums
 

@@ -80,6 +80,11 @@ month-sum n (suc j) h =
     let e' : suc j + 1 ≡ suc (j + 1) = omega arith in
     rw (e, e') (omega (arith, month-sum n j (omega arith), length-in n j h))
 
+pub month_total : (i : ℕ) → total length_after (12 * (i / 12)) + days_before (leap_year (2000 + i / 12)) (i % 12 + 1) ≡ total length_after i
+month_total i =
+    let e : 12 * (i / 12) + i % 12 ≡ i = omega arith in
+    sym (rw e at (month-sum (i / 12) (i % 12) (omega arith)))
+
 pub year-sum : (n : ℕ) → total length_after (12 * (n + 1)) ≡ total length_after (12 * n) + year_length (2000 + n)
 unfolding year_length
 year-sum n =

@@ -81,8 +81,7 @@ fn month_length(year: u32, month: u32) -> u32
     match month {
         1 | 3 | 5 | 7 | 8 | 10 | 12 => 31,
         4 | 6 | 9 | 11 => 30,
-        2 if leap(year) => 29,
-        2 => 28,
+        2 => if leap(year) { 29 } else { 28 },
         _ => 0,
     }
 }
@@ -116,6 +115,7 @@ fn years_before(n: u32) -> u32
 }
 
 // The days from 2000-01-01 to the first of the month i months after January 2000.
+#[tactic(auto, using(crate::proofs::Years::month_total, crate::proofs::Laws::sum_limit))]
 fn month_after(i: u32) -> u32
     requires { i < 12 * (end_year + 1 - first_year) }
     ensures { result ≡ total length_after i }
@@ -133,7 +133,7 @@ fn months_after(d: Date) -> u32
     12 * (d.year - FIRST_YEAR) + (d.month - 1)
 }
 
-#[tactic(auto, using(crate::proofs::Laws::reached), unfolding(crate::specs::Calendar::days_after))]
+#[tactic(auto, using(crate::proofs::Laws::reached, crate::proofs::Laws::days_limit), unfolding(crate::specs::Calendar::days_after))]
 fn days_after(d: Date) -> u32
     requires { is_in_reach d ≡ true }
     ensures { result ≡ days_after d }
@@ -267,7 +267,7 @@ fn date_in(year: u32, left: u32) -> Date
 }
 
 // The date of day k.
-#[tactic(auto, using(crate::proofs::Years::opened, crate::proofs::Years::year_taken, crate::proofs::Years::year_range, crate::proofs::Years::date_is))]
+#[tactic(auto, using(crate::proofs::Years::opened, crate::proofs::Years::year_taken, crate::proofs::Years::year_range))]
 pub fn date_of(opened: Date, k: u32) -> Option<Date>
     ensures { result ≡ date_answer opened k }
 {
@@ -312,7 +312,7 @@ pub fn day_of(opened: Date, d: Date) -> Option<u32>
 }
 
 // The first of days 0 to 399 that lies in month m or later, or 400.
-#[tactic(auto, using(crate::proofs::Laws::opens_reached, crate::proofs::Laws::reached), unfolding(crate::specs::Work::month_start))]
+#[tactic(auto, using(crate::proofs::Laws::opens_reached), unfolding(crate::specs::Work::month_start))]
 fn month_start(opened: Date, m: u32) -> u32
     requires { (opens opened ≡ true) × (m ≤ month_count) }
     ensures { result ≡ month_start opened m }

@@ -1,6 +1,6 @@
 -- One turn of each loop, at the code's `d + 1` and `d - 1`. Assumes nothing.
 use mathlib.Core.Path.{◌≡◌, refl, sym, ◌∙◌, ap}
-use mathlib.Core.Bool.{cond, not, ◌&&◌, ◌||◌, or-false}
+use mathlib.Core.Bool.{true, false, cond, not, ◌&&◌, ◌||◌, or-false, and-false}
 use mathlib.Core.List.{List}
 use Prim.Native.Nat.{ℕ, zero, suc, ◌+◌, ◌-◌, ◌≤◌, ◌<◌}
 use native.Mathlib.Numerals.{sub-one}
@@ -8,6 +8,7 @@ use native.Mathlib.Omega.{arith}
 use lib.ListN.{get_or, set}
 use lib.Dec.{ltb, eqb, eqb-suc-zero}
 use lib.Bits.{bit_and, bit_or}
+use borrow.Author.Tests.{eq-eqb, ne_eqb, lt-ltb, le-ltb, le-leb, lt-leb}
 use Rattle.marks.specs.Marks.{mark_range, latest_of, near_of, day_before, business_left}
 use Rattle.std.specs.Prelude.{Some, None}
 
@@ -38,6 +39,9 @@ latest_turn l (suc d) first h =
     let e : suc d - first ≡ suc (d - first) = omega arith in
     rw e (simp sub-one)
 
+pub latest_past : (l : List ℕ) (d first : ℕ) → first < d → (get_or l (d - 1) 0 ≡ 1 → ⊥) → latest_of l d (d - first) ≡ latest_of l (d - 1) (d - 1 - first)
+latest_past l d first h n = latest_turn l d first h ∙ simp (ne_eqb _ 1 n)
+
 -- n days back from day d, or back to day 0
 pub latest_back : (l : List ℕ) (d n : ℕ) → latest_of l d n ≡ latest_of l d (d - (d - n))
 unfolding latest_of
@@ -48,7 +52,24 @@ latest_back l (suc d) (suc n) =
     let e : suc d - (suc d - suc n) ≡ suc (d - (d - n)) = omega arith in
     rw e (ap (cond (eqb (get_or l d 0) 1) (Some d)) (latest_back l d n))
 
-pub near_turn : (l : List ℕ) (w d left : ℕ) → near_of l w d left ≡ (not (eqb (bit_and (get_or l d 0) 1) 0) || (not (eqb d 0) && (not (ltb w 5 && eqb left 0) && near_of l (day_before w) (d - 1) (business_left w left))))
+near-turn : (l : List ℕ) (w d left : ℕ) → near_of l w d left ≡ (not (eqb (bit_and (get_or l d 0) 1) 0) || (not (eqb d 0) && (not (ltb w 5 && eqb left 0) && near_of l (day_before w) (d - 1) (business_left w left))))
 unfolding near_of
-near_turn l w zero left = sym (or-false _)
-near_turn l w (suc d) left = simp (sub-one, eqb-suc-zero)
+near-turn l w zero left = sym (or-false _)
+near-turn l w (suc d) left = simp (sub-one, eqb-suc-zero)
+
+-- a day with the weather bit answers
+pub near_here : (l : List ℕ) (w d left : ℕ) → (bit_and (get_or l d 0) 1 ≡ 0 → ⊥) → near_of l w d left ≡ true
+near_here l w d left h = near-turn l w d left ∙ simp (ne_eqb _ 0 h)
+
+-- so does the first day, and a business day with none left; any other passes the question on to the day before
+pub near_first : (l : List ℕ) (w d left : ℕ) → bit_and (get_or l d 0) 1 ≡ 0 → d ≡ 0 → near_of l w d left ≡ false
+near_first l w d left h e = near-turn l w d left ∙ simp (eq-eqb _ 0 h, eq-eqb d 0 e)
+
+pub near_spent : (l : List ℕ) (w d left : ℕ) → bit_and (get_or l d 0) 1 ≡ 0 → w < 5 → left ≡ 0 → near_of l w d left ≡ false
+near_spent l w d left h p e = near-turn l w d left ∙ simp (eq-eqb _ 0 h, lt-ltb w 5 p, eq-eqb left 0 e, and-false)
+
+pub near_weekend : (l : List ℕ) (w d left : ℕ) → bit_and (get_or l d 0) 1 ≡ 0 → 0 < d → 5 ≤ w → near_of l w d left ≡ near_of l (day_before w) (d - 1) left
+near_weekend l w d left h p q = near-turn l w d left ∙ simp (eq-eqb _ 0 h, ne_eqb d 0 (λ e. omega arith), le-ltb w 5 q, le-leb 5 w q)
+
+pub near_workday : (l : List ℕ) (w d left : ℕ) → bit_and (get_or l d 0) 1 ≡ 0 → 0 < d → w < 5 → (left ≡ 0 → ⊥) → near_of l w d left ≡ near_of l (day_before w) (d - 1) (left - 1)
+near_workday l w d left h p q n = near-turn l w d left ∙ simp (eq-eqb _ 0 h, ne_eqb d 0 (λ e. omega arith), ne_eqb left 0 n, lt-leb 5 w q, and-false)

@@ -45,7 +45,7 @@ pub fn barring(marks: &DayBytes, day: u32) -> bool
 }
 
 // The newest warning of the seven days before the day.
-#[tactic(auto, using(crate::proofs::Turns::latest_end, crate::proofs::Turns::latest_turn, crate::proofs::Turns::latest_back), unfolding(crate::specs::Marks::latest_warning))]
+#[tactic(auto, using(crate::proofs::Turns::latest_end, crate::proofs::Turns::latest_turn, crate::proofs::Turns::latest_past, crate::proofs::Turns::latest_back), unfolding(crate::specs::Marks::latest_warning))]
 pub fn latest(warned: &DayBytes, day: u32) -> Option<u32>
     ensures { result ≡ latest_warning warned.now day }
 {
@@ -73,7 +73,7 @@ fn day_before(weekday: u32) -> u32
 }
 
 // Whether a weather day lies so near before or on the day that at most one business day has come since.
-#[tactic(auto, using(crate::proofs::Turns::near_turn), unfolding(crate::specs::Marks::weather_near))]
+#[tactic(auto, using(crate::proofs::Turns::near_here, crate::proofs::Turns::near_first, crate::proofs::Turns::near_spent, crate::proofs::Turns::near_weekend, crate::proofs::Turns::near_workday), unfolding(crate::specs::Marks::weather_near))]
 pub fn weather_near(marks: &DayBytes, weekday: u32, day: u32) -> bool
     ensures { result ≡ weather_near marks.now weekday day }
 {
