@@ -6,6 +6,7 @@ use mathlib.Core.Bool.{Bool, true, false, cond, ◌&&◌}
 use mathlib.Core.List.{List, [], ◌∷◌, map}
 use lib.Dec.{leb, eqb, eqb-suc-zero}
 use borrow.Author.Tests.{eqb-true, leb-true}
+use Rattle.core.specs.Int.{from_bool}
 use Rattle.std.specs.List.{list_all}
 use Rattle.ledger.proofs.Cases.{both}
 use Rattle.moves.proofs.Ways.{yes}
@@ -41,6 +42,10 @@ module _ {A B : Type 0} (p : B → Bool) (f : A → B) (g : B → A) (h : Pair p
   lists = record { image = all-images; back = all_back; forth = all-forth }
 
 -- ---- yes or no
+
+pub flag_is : (b : Bool) → from_bool b ≡ cond b 1 0
+flag_is true = refl
+flag_is false = refl
 
 flag-image : (b : Bool) → leb (cond b 1 0) 1 ≡ true
 flag-image true = refl

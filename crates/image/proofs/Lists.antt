@@ -14,5 +14,5 @@ pub mapped : {F A B : Type 0} {g : Mut F (A × Unit {0}) B} {c : F} {xs : List A
 mapped {xs = xs} {ys = ys} {n = n} f d e m h =
     ext_get_or (f d) ys (map f xs) (m.long ∙ sym e ∙ sym (length-map xs f))
     (λ i b. let k : i < n = omega (arith, m.long) in
-      let a = m.at i d (f d) k in
-      h a.0 a.1 _ _ a.2 ∙ sym (get_or-map f xs i d (f d) (omega arith)))
+    let a = m.at i d (f d) k in
+    h a.0 a.1 _ _ a.2 ∙ sym (get_or-map f xs i d (f d) (omega arith)))

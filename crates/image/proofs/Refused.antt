@@ -2,7 +2,7 @@
 use Prim.Native.Nat.{ℕ}
 use mathlib.Core.Path.{◌≡◌, refl}
 use borrow.Author.Tests.{ne_eqb}
-use Rattle.calendar.specs.Calendar.{opens}
+use Rattle.calendar.specs.Calendar.{opens, is_date_until}
 use Rattle.terms.specs.Terms.{valid_terms, terms_code, zero_terms}
 use Rattle.ledger.specs.declared.Event.{Event}
 use Rattle.ledger.specs.Months.{no_summary}
@@ -17,9 +17,9 @@ unfolding step_of
 leaves a e n = simp (ne_eqb _ 0 n)
 
 pub no-account : (e : Event) → (step_of (fresh zero_terms) e).code ≡ 1
-unfolding step_of move_of cells_before early_code is_account fresh terms_code valid_terms opens
+unfolding step_of move_of cells_before early_code is_account fresh terms_code valid_terms opens is_date_until
 no-account e = refl
 
 pub no-summary : (m : ℕ) → summary_of (fresh zero_terms) m ≡ no_summary 1
-unfolding is_account fresh terms_code valid_terms opens
+unfolding is_account fresh terms_code valid_terms opens is_date_until
 no-summary m = refl

@@ -1,5 +1,5 @@
 -- The account record as numbers alone, and the calls over it, by the record's own.
-use Rattle.std.specs.Prelude.{ℕ, ◌≡◌, Bool, true, false, cond, ◌&&◌, List, map, leb, eqb, Result}
+use Rattle.std.specs.Prelude.{ℕ, ◌≡◌, Bool, true, false, cond, ◌&&◌, map, leb, eqb, Result}
 use Rattle.std.specs.List.{list_all}
 use Rattle.terms.specs.Terms.{zero_terms}
 use Rattle.terms.specs.declared.Terms.{Terms}

@@ -185,7 +185,7 @@ impl From<TotalsImage> for Totals {
 impl From<Totals> for TotalsImage {
     ghost from_gives = { λ s i. i ≡ totals_image s };
 
-    #[tactic(auto, unfolding(crate::specs::Image::totals_image))]
+    #[tactic(auto, using(crate::proofs::Conversions::flag_is), unfolding(crate::specs::Image::totals_image))]
     fn from(totals: Totals) -> TotalsImage {
         TotalsImage {
             credit: totals.credit,
