@@ -81,3 +81,5 @@ module _ (key s : List ℕ) where
 
       pub value-line : (n : ℕ) → Some n ≡ position (λ b. eqb b 10) v → read_value key s ≡ got (take n v) (take (length v - (n + 1)) (drop (n + 1) v))
       value-line n i = let p = cond_some _ _ _ (sym i) in rw (take_rest, ← p.1) (by_line ∙ cond-true _ _ _ p.0)
+
+pub ruleset value_steps = (no-key, no-equals)

@@ -45,10 +45,12 @@ module _ (v : List ℕ) (i n : ℕ) (g : GoesOn v i n) where
       pub above : 4294967296 ≤ n * 10 + d → None ≡ decimal v
       above h = too-large d (omega (arith, is)) h
 
-      pub next-digit : n * 10 + d < 4294967296 → GoesOn v (i + 1) (n * 10 + d)
+      pub next-digit : (m : ℕ) → m ≡ n * 10 + d → m < 4294967296 → GoesOn v (i + 1) m
       unfolding value_from all_digits
-      next-digit h = record { fits = h; digits = simp (g.digits, left, is.0); value = rw (← is.1) (simp (g.value, left)) }
+      next-digit m e h = record { fits = h; digits = simp (g.digits, left, is.0); value = rw (e, ← is.1) (simp (g.value, left)) }
 
   pub all-read : length v ≤ i → Some n ≡ decimal v
   unfolding decimal value_from all_digits
   all-read l = let e = drop_of_length-le v l in simp (g.digits, g.value, e, le-leb n max_number (let h = g.fits in omega arith))
+
+pub ruleset digit_steps = (not-digit, too-large, above, all-read)

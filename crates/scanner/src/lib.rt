@@ -13,6 +13,7 @@ use calendar::Date;
 // ---- lines
 
 // The value of the first line, whose key this is to be.
+#[tactic(auto, using(crate::proofs::Lines::value_steps))]
 pub fn read_value<'a>(text: &'a [u8], key: &[u8]) -> Option<(&'a [u8], &'a [u8])>
     ensures { IsValueRead (read_value key.now text.now) result }
 {
@@ -33,6 +34,7 @@ fn digit(byte: u8) -> Option<u32>
 }
 
 // The number that some digits make, none where it is above 4,294,967,295.
+#[tactic(auto, using(crate::proofs::Numbers::digit_steps))]
 fn decimal(digits: &[u8]) -> Option<u32>
     ensures { result ≡ decimal digits.now }
 {

@@ -1,27 +1,17 @@
 -- The words of `do` and their sorts. Assumes nothing.
-use Rattle.std.proofs.Common.{◌≡◌, ℕ, suc, ◌<◌, ◌≤◌, Bool, true, false, cond, ◌&&◌, leb, eqb, None, List, [], ◌∷◌, length, get_or, refl, sym, ap, arith}
-use borrow.Author.Tests.{leb-true, ne_eqb}
+use Rattle.std.proofs.Common.{◌≡◌, ℕ, ◌≤◌, Bool, true, false, cond, not, ◌&&◌, leb, eqb, None, List, [], ◌∷◌, length, get_or, refl, rules}
+use borrow.Author.Tests.{leb-true, eq-eqb, ne_eqb}
 use mathlib.Core.Logic.{◌≢◌}
-use Rattle.std.proofs.lemmas.Bool.{false_from_ne_true}
+use Rattle.std.proofs.lemmas.Bool.{false_from_ne_true, false≢true}
+use Rattle.std.proofs.lemmas.Slice.Eq.{compares_Decides}
 use Rattle.calendar.proofs.Sums.{and_left, and_right}
-use Rattle.scanner.specs.Scanner.{bytes, same}
+use Rattle.scanner.specs.Scanner.{same}
 use Rattle.text.specs.Text.{SortRow, sorts, sort_in}
 use Rattle.text.specs.Words.{sort_of}
 
-same_length : (p w : List ℕ) → same p w ≡ true → length w ≡ length p
+same_is : (p w : List ℕ) → same p w ≡ true → p ≡ w
 unfolding same
-same_length [] [] e = refl
-same_length [] (b ∷ w) e = absurd (cc)
-same_length (c ∷ p) [] e = absurd (cc)
-same_length (c ∷ p) (b ∷ w) e = ap suc (same_length p w (and_right (eqb c b) (same p w) e))
-
-other_length : (p w : List ℕ) → length w ≢ length p → same p w ≡ false
-other_length p w h = false_from_ne_true (same p w) (λ e. h (same_length p w e))
-
-other-start : (c : ℕ) (p w : List ℕ) → get_or w 0 0 ≢ c → same (c ∷ p) w ≡ false
-unfolding same
-other-start c p [] h = refl
-other-start c p (b ∷ w) h = simp (ne_eqb c b (λ z. h (sym z)))
+same_is p w e = (compares_Decides same (search rules) p w).0 e
 
 -- ---- each word has four bytes, or three in sort 1
 
@@ -31,6 +21,11 @@ least sort = cond (eqb sort 1) 3 4
 abbrev sound : List SortRow → Bool
 sound [] = true
 sound (r ∷ rows) = leb (least r.sort) (length r.word) && sound rows
+
+-- whether each word differs in its length n or in its first byte b
+abbrev apart : ℕ → ℕ → List SortRow → Bool
+apart n b [] = true
+apart n b (r ∷ rows) = not (eqb n (length r.word) && eqb b (get_or r.word 0 0)) && apart n b rows
 
 module _ (w : List ℕ) where
   named : (b : Bool) (k n : ℕ) → (b ≡ true → least k ≤ length w) → (n ≢ 0 → least n ≤ length w) → cond b k n ≢ 0 → least (cond b k n) ≤ length w
@@ -42,31 +37,39 @@ module _ (w : List ℕ) where
   long-in [] h z = absurd (z refl)
   long-in (r ∷ rows) h z =
       named (same r.word w) r.sort (sort_in rows w)
-      (λ e. omega (arith, leb-true (least r.sort) (length r.word) (and_left _ (sound rows) h), same_length r.word w e))
+      (λ e. rw (same_is r.word w e) at (leb-true (least r.sort) (length r.word) (and_left _ (sound rows) h)))
       (long-in rows (and_right (leb (least r.sort) (length r.word)) _ h))
       z
 
   pub long-enough : sort_in sorts w ≢ 0 → least (sort_in sorts w) ≤ length w
   long-enough = long-in sorts refl
 
-  -- ---- long words that name no sort
+  other : (p : List ℕ) → not (eqb (length w) (length p) && eqb (get_or w 0 0) (get_or p 0 0)) ≡ true → same p w ≡ false
+  other p h = false_from_ne_true (same p w) (λ e. false≢true (simp (same_is p w e, eq-eqb (length w) (length w) refl, eq-eqb (get_or w 0 0) (get_or w 0 0) refl) at h))
 
-  shorter : 8 ≤ length w → (p : List ℕ) → length p < 8 → same p w ≡ false
-  shorter l p h = other_length p w (λ e. omega arith)
+  none-in : (rows : List SortRow) → apart (length w) (get_or w 0 0) rows ≡ true → sort_in rows w ≡ 0
+  unfolding sort_in
+  none-in [] h = refl
+  none-in (r ∷ rows) h = simp (other r.word (and_left _ (apart (length w) (get_or w 0 0) rows) h)) (none-in rows (and_right (not (eqb (length w) (length r.word) && eqb (get_or w 0 0) (get_or r.word 0 0))) _ h))
 
-  long : 8 ≤ length w → same (bytes "estimate") w ≡ false → same (bytes "disconnect") w ≡ false → None ≡ sort_of w
-  unfolding sort_of sort_in
-  long l e d =
-      let s = shorter l in
-      simp (s (bytes "pay") (omega arith), s (bytes "reverse") (omega arith), s (bytes "credit") (omega arith), s (bytes "charge") (omega arith), e, s (bytes "read") (omega arith), s (bytes "warn") (omega arith), s (bytes "mark") (omega arith), s (bytes "plan") (omega arith), d, s (bytes "connect") (omega arith))
+  no-word : (n b : ℕ) → length w ≡ n → get_or w 0 0 ≡ b → apart n b sorts ≡ true → None ≡ sort_of w
+  unfolding sort_of
+  no-word n b l e h = simp (none-in sorts (rw (l, e) h))
 
-  pub long-word : 8 ≤ length w → length w ≢ 8 → length w ≢ 10 → None ≡ sort_of w
-  long-word l e d = long l (other_length (bytes "estimate") w e) (other_length (bytes "disconnect") w d)
+  pub other-length : length w ≢ 3 → length w ≢ 4 → length w ≢ 6 → length w ≢ 7 → length w ≢ 8 → length w ≢ 10 → None ≡ sort_of w
+  other-length a b c d e f =
+      no-word (length w) _ refl refl (simp (ne_eqb (length w) 3 a, ne_eqb (length w) 4 b, ne_eqb (length w) 6 c, ne_eqb (length w) 7 d, ne_eqb (length w) 8 e, ne_eqb (length w) 10 f))
 
-  pub not-estimate : length w ≡ 8 → get_or w 0 0 ≢ 101 → None ≡ sort_of w
-  not-estimate l h = long (omega arith) (other-start 101 _ w h) (other_length (bytes "disconnect") w (λ e. omega arith))
+  pub not-four : length w ≡ 4 → get_or w 0 0 ≢ 114 → get_or w 0 0 ≢ 119 → get_or w 0 0 ≢ 109 → get_or w 0 0 ≢ 112 → None ≡ sort_of w
+  not-four l a b c d = no-word 4 _ l refl (simp (ne_eqb (get_or w 0 0) 114 a, ne_eqb (get_or w 0 0) 119 b, ne_eqb (get_or w 0 0) 109 c, ne_eqb (get_or w 0 0) 112 d))
 
-  pub not-disconnect : length w ≡ 10 → get_or w 0 0 ≢ 100 → None ≡ sort_of w
-  not-disconnect l h = long (omega arith) (other_length (bytes "estimate") w (λ e. omega arith)) (other-start 100 _ w h)
+  pub not-six : length w ≡ 6 → get_or w 0 0 ≢ 99 → None ≡ sort_of w
+  not-six l a = no-word 6 _ l refl (simp (ne_eqb (get_or w 0 0) 99 a))
 
-pub ruleset long_words = (long-word, not-estimate, not-disconnect)
+  pub not-eight : length w ≡ 8 → get_or w 0 0 ≢ 101 → None ≡ sort_of w
+  not-eight l a = no-word 8 _ l refl (simp (ne_eqb (get_or w 0 0) 101 a))
+
+  pub not-ten : length w ≡ 10 → get_or w 0 0 ≢ 100 → None ≡ sort_of w
+  not-ten l a = no-word 10 _ l refl (simp (ne_eqb (get_or w 0 0) 100 a))
+
+pub ruleset other_words = (other-length, not-four, not-six, not-eight, not-ten)

@@ -39,7 +39,7 @@ pub fn read_terms(text: &[u8]) -> Option<(Terms, &[u8])>
 // ---- the sort of an event
 
 // The sort that a word names.
-#[tactic(auto, using(crate::proofs::Words::long_words), unfolding(crate::specs::Words::sort_of, crate::specs::Text::sort_in, scanner::specs::Scanner::same))]
+#[tactic(auto, using(crate::proofs::Words::other_words), unfolding(crate::specs::Words::sort_of, crate::specs::Text::sort_in, scanner::specs::Scanner::same))]
 fn sort_of(word: &[u8]) -> Option<u32>
     ensures { result ≡ sort_of word.now }
 {
