@@ -13,6 +13,7 @@ use Rattle.account.specs.Step.{step_of}
 use Rattle.account.specs.declared.Account.{Account}
 use Rattle.scanner.specs.Scanner.{Read, got, broken}
 use Rattle.text.specs.Text.{read_event}
+use Rattle.text.proofs.Laws.{event-progress}
 use Rattle.printing.proofs.Counts.{uncounted}
 use Rattle.transcript.specs.Events.{Fold, fold_by, fold_in}
 use Rattle.transcript.specs.Transcript.{ledger_lines}
@@ -20,7 +21,6 @@ use Rattle.transcript.specs.Work.{account_line, account_last_line, account_lines
 use Rattle.transcript.specs.Pieces.{among_events, piece_by, events_piece}
 use Rattle.transcript.specs.Counts.{FoldSuffices, CountsSuffice}
 use Rattle.transcript.specs.Progress.{Reached}
-use Rattle.transcript.proofs.Rests.{event-rest}
 
 pub by_read : {Z : Type 0} (x : Read Event) → ((e : Event) (r : List ℕ) → x ≡ got e r → Z) → (x ≡ broken → Z) → Z
 by_read (got e r) g f = g e r refl
@@ -69,7 +69,7 @@ fold-local w f g x [] h = refl
 fold-local w f g x (b ∷ s) h = by_read (read_event (b ∷ s))
     (λ e r q.
     fold-got w f x (b ∷ s) r e (omega arith) q
-    ∙ ap (w.event x e) (h (w.step x e) r (omega (arith, (event-rest (b ∷ s) e r q).1)))
+    ∙ ap (w.event x e) (h (w.step x e) r (omega (arith, event-progress (b ∷ s) e r q)))
     ∙ sym (fold-got w g x (b ∷ s) r e (omega arith) q))
     (λ q. fold-broken w f x (b ∷ s) (omega arith) q ∙ sym (fold-broken w g x (b ∷ s) (omega arith) q))
 
@@ -84,7 +84,7 @@ piece-local f g room s a at count n h = decide (leb (length s) at)
     by_read (read_event (drop at s))
     (λ e r q.
     piece-got f room s a at count n m l e r q
-    ∙ h (step_of a e).account (length s - length r) (count + 1) _ (omega (arith, (event-rest (drop at s) e r q).1, length-drop at s))
+    ∙ h (step_of a e).account (length s - length r) (count + 1) _ (omega (arith, event-progress (drop at s) e r q, length-drop at s))
     ∙ sym (piece-got g room s a at count n m l e r q))
     (λ q. piece-broken f room s a at count n m l q ∙ sym (piece-broken g room s a at count n m l q))))
 
@@ -103,7 +103,7 @@ fold-suffices {S} {Y} w x s =
 pub counts-suffice : CountsSuffice
 unfolding events_piece
 counts-suffice = record {
-  progress = λ s r e g. omega (arith, (event-rest s e r g).1);
+  progress = λ s r e g. omega (arith, event-progress s e r g);
   ledger-lines = λ t. fold-suffices (ledger_lines t);
   account-lines = fold-suffices account_lines;
   pieces = λ room s a at count n.

@@ -1,13 +1,13 @@
 -- The lines by the account's step and the reading calls are the ledger's, for an account that stands for the ledger. Assumes nothing.
 use Prim.Native.Nat.{ℕ, zero, suc, ◌+◌, ◌-◌, ◌≤◌, ◌<◌}
 use mathlib.Core.Path.{◌≡◌, refl, sym, ap, ap₂, ◌∙◌}
-use mathlib.Core.Bool.{true, false}
+use mathlib.Core.Bool.{Bool, true, false, cond}
 use mathlib.Core.List.{List, [], ◌∷◌, ◌++◌}
 use native.Mathlib.Omega.{arith}
 use lib.ListN.{length, drop, length-drop}
-use lib.Dec.{eqb}
+use lib.Dec.{ltb}
 use borrow.Author.Tests.{lt-ltb, le-ltb, eqb-true, eqb-false}
-use Rattle.terms.specs.Terms.{valid_terms, zero_terms}
+use Rattle.terms.specs.Terms.{valid_terms, terms_code, zero_terms}
 use Rattle.terms.specs.declared.Terms.{Terms}
 use Rattle.ledger.specs.Rules.{Ledger}
 use Rattle.ledger.specs.Ledger.{opening, ledger_step}
@@ -18,14 +18,15 @@ use Rattle.account.specs.declared.Account.{Account}
 use Rattle.refinement.specs.Agree.{Represents, Refinement}
 use Rattle.refinement.proofs.Lists.{refinement-holds}
 use Rattle.readings.proofs.After.{balance-reading, settled-reading}
-use Rattle.scanner.specs.Scanner.{got, broken}
+use Rattle.scanner.specs.Scanner.{Read, got, broken}
 use Rattle.text.specs.Text.{read_terms, read_event}
+use Rattle.text.proofs.Laws.{terms-rest}
 use Rattle.transcript.specs.Events.{fold_in, fold_events}
-use Rattle.transcript.specs.Transcript.{ledger_line, ledger_last_line, ledger_lines, terms_line, by_terms, all_lines, transcript}
-use Rattle.transcript.specs.Pieces.{start_of, begun_of, Begun}
+use Rattle.transcript.specs.Transcript.{ledger_line, ledger_last_line, ledger_lines, terms_line, by_terms, terms_in, all_lines, transcript}
+use Rattle.transcript.specs.Pieces.{lines_from, start_of, begun_of, Begun}
 use Rattle.transcript.specs.Progress.{Reached}
 use Rattle.transcript.proofs.Whole.{begun, events-left, refusal-left}
-use Rattle.transcript.proofs.Terms.{valid, refused, by-terms}
+use Rattle.transcript.proofs.Terms.{short, by-terms, code-0, code-1, invalid}
 use Rattle.transcript.specs.Work.{account_line, account_last_line, account_lines}
 use Rattle.transcript.proofs.Counts.{by_read, fold-got, fold-broken}
 
@@ -60,37 +61,48 @@ lines_are t v (suc k) a l n (b ∷ s) h = by_read (read_event (b ∷ s))
     ∙ ap₂ ◌++◌ (line-is t a l h n 15 0) (closing-is t a l h)
     ∙ sym (fold-broken (ledger_lines t) (fold_in (ledger_lines t) k) (l, n) (b ∷ s) (omega arith) g))
 
--- ---- from the terms
+-- ---- before the first piece
 
-module _ (t : Terms) (o : Opened) (is : o ≡ open_of t) where
-  pub opened : (text : List ℕ) (start : ℕ) → o.code ≡ 0
-      → fold_events account_lines (o.account, 1) (drop start text) ≡ by_terms all_lines (got t (drop start text))
-  opened text start e =
-      let v : valid_terms t ≡ true = valid t o is e in
-      simp v (rw (ap (λ (p : Opened). p.account) is) (lines_are t v (suc (length (drop start text))) (fresh t) opening 1 (drop start text) (refinement-holds t v).opens))
+-- by the terms that are read
+abbrev begun_by : ℕ → Read Terms → Reached
+begun_by n (got t r) = start_of t (n - length r) (terms_code t)
+begun_by n broken = start_of zero_terms 0 15
 
-  -- before the first piece
-  pub opened-begun : (text : List ℕ) (next : ℕ) → length text ≤ 65536 → next ≤ length text → read_terms text ≡ got t (drop next text)
-      → Begun text (record { account = o.account; at = next; count = 0; code = o.code; length = 0; done = false })
+begun-as : (text : List ℕ) → begun_of text ≡ begun_by (length text) (terms_in text)
+begun-as text = by (ltb 65536 (length text)) (read_terms text)
+  where
+    by : (b : Bool) (x : Read Terms) → cond b (start_of zero_terms 0 15) (elim x [ | got t r ↦ start_of t (length text - length r) (open_of t).code | broken ↦ start_of zero_terms 0 15 ]) ≡ begun_by (length text) (cond b broken x)
+    by true x = refl
+    by false (got t r) = refl
+    by false broken = refl
+
+module _ (text : List ℕ) where
+  pub malformed-begun : terms_in text ≡ broken → (p : Reached) → p ≡ start_of zero_terms 0 15 → Begun text p
   unfolding transcript
-  opened-begun text next l w e =
-      let start : Opened → ℕ → Reached = λ p at. record { account = p.account; at = at; count = 0; code = p.code; length = 0; done = false } in
-      let there : next ≡ length text - length (drop next text) = rw (length-drop next text) (omega arith) in
-      begun text (start o next)
-      (simp (le-ltb 65536 (length text) l, e) (ap₂ start is there))
-      (decide (eqb o.code 0)
-      (λ y. let z = eqb-true o.code 0 y in events-left text (start o next) refl z (omega arith) ∙ opened text next z)
-      (λ n. let z = eqb-false o.code 0 n in refusal-left text (start o next) refl (omega arith) z ∙ refused t o is all_lines (drop next text) z)
-      ∙ sym (by-terms all_lines text (got t (drop next text)) l e))
-      (λ z. l)
+  malformed-begun e p is =
+      rw is
+      (begun text (start_of zero_terms 0 15) (sym (begun-as text ∙ ap (begun_by (length text)) e))
+      (refusal-left text (start_of zero_terms 0 15) refl (omega arith) (λ z. omega (arith, z)) ∙ sym (by-terms text all_lines broken e))
+      (λ z. absurd (omega (arith, z))))
 
--- terms that break their form
-pub begun-long : (text : List ℕ) → 65536 < length text → begun_of text ≡ start_of zero_terms 0 15
-begun-long text l = simp (lt-ltb 65536 (length text) l)
+  module _ (t : Terms) (r : List ℕ) (e : terms_in text ≡ got t r) where
+    there : r ≡ drop (length text - length r) text
+    there = terms-rest text t r (short text t r e).1
 
-pub begun-broken : (text : List ℕ) → length text ≤ 65536 → read_terms text ≡ broken → begun_of text ≡ start_of zero_terms 0 15
-begun-broken text l e = simp (le-ltb 65536 (length text) l, e)
+    pub within : length r ≤ length text
+    within = omega (arith, ap length there, length-drop (length text - length r) text)
 
-pub malformed-begun : (text : List ℕ) (p : Reached) → p ≡ start_of zero_terms 0 15 → begun_of text ≡ start_of zero_terms 0 15 → transcript text ≡ terms_line 15 → Begun text p
-malformed-begun text p m b e =
-    rw m (begun text (start_of zero_terms 0 15) (sym b) (refusal-left text (start_of zero_terms 0 15) refl (omega arith) (λ z. omega (arith, z)) ∙ sym e) (λ z. absurd (omega (arith, z))))
+    opened : valid_terms t ≡ true → lines_from text (fresh t) (length text - length r) 0 ≡ by_terms all_lines (got t r)
+    opened v = rw (sym there) (simp v (lines_are t v (suc (length r)) (fresh t) opening 1 r (refinement-holds t v).opens))
+
+    pub opened-begun : (p : Reached) → p ≡ start_of t (length text - length r) (terms_code t) → Begun text p
+    unfolding transcript
+    opened-begun p is =
+        let q : Reached = start_of t (length text - length r) (terms_code t) in
+        rw is
+        (begun text q (sym (begun-as text ∙ ap (begun_by (length text)) e))
+        (decide (valid_terms t)
+        (λ v. events-left text q refl (code-0 t v) (omega arith) ∙ opened v)
+        (λ f. refusal-left text q refl (omega arith) (λ z. omega (arith, z, code-1 t f)) ∙ ap terms_line (code-1 t f) ∙ sym (invalid t all_lines r f))
+        ∙ sym (by-terms text all_lines (got t r) e))
+        (λ z. (short text t r e).0))

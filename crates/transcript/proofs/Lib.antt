@@ -1,6 +1,5 @@
-mod Rests
 mod Turn
-pub mod Ledgers
 pub mod Counts
+pub mod Ledgers
 pub mod Terms
 pub mod Whole

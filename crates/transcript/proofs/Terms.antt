@@ -1,36 +1,83 @@
 -- What is printed for a text, by its length and its terms: for those who cite `by_text`. Assumes nothing.
 use Prim.Native.Nat.{ℕ, ◌≤◌, ◌<◌}
-use mathlib.Core.Path.{◌≡◌, ap, ◌∙◌}
-use mathlib.Core.Bool.{true, false}
+use mathlib.Core.Path.{◌≡◌, refl, sym, ap, subst, ◌∙◌}
+use mathlib.Core.Bool.{Bool, true, false, cond}
 use mathlib.Core.List.{List}
+use native.Mathlib.Omega.{arith}
 use lib.ListN.{length}
-use borrow.Author.Tests.{lt-ltb, le-ltb}
+use lib.Dec.{ltb}
+use borrow.Author.Tests.{lt-ltb, le-ltb, ltb-true, ltb-false}
+use Rattle.std.proofs.Common.{Result, Ok, Err}
+use Rattle.core.specs.Result.{result_err}
 use Rattle.terms.specs.Terms.{valid_terms, terms_code}
 use Rattle.terms.specs.declared.Terms.{Terms}
+use Rattle.ledger.specs.declared.Refusal.{Refusal}
+use Rattle.ledger.specs.Refusals.{refusal_code}
 use Rattle.ledger.proofs.Cases.{decide}
-use Rattle.account.specs.Step.{Opened, open_of}
+use Rattle.account.specs.Step.{Opened, IsOpened}
+use Rattle.account.specs.declared.Account.{Account}
 use Rattle.refinement.proofs.Lists.{opened-valid}
-use Rattle.scanner.specs.Scanner.{Read, got}
+use Rattle.scanner.specs.Scanner.{Read, got, broken}
 use Rattle.text.specs.Text.{read_terms}
-use Rattle.transcript.specs.Transcript.{terms_line, by_terms, by_text}
+use Rattle.transcript.specs.Progress.{code_or_0}
+use Rattle.transcript.specs.Transcript.{terms_line, by_terms, by_text, terms_in}
 
-wrong : (t : Terms) → (terms_code t ≡ 0 → ⊥) → (valid_terms t ≡ false) × (terms_code t ≡ 1)
-unfolding terms_code
-wrong t ne = decide (valid_terms t) (λ y. absurd (ne (simp y))) (λ f. (f, simp f))
+-- what was read is not broken
+abbrev IsGot : {A : Type 0} → Read A → Type 0
+IsGot (got a r) = Unit
+IsGot broken = ⊥
 
-module _ (lines : Terms → List ℕ → List ℕ) (s : List ℕ) where
-  pub too_long : 65536 < length s → by_text lines s ≡ terms_line 15
-  too_long l = simp (lt-ltb 65536 (length s) l)
+-- a refusal's code is not 0
+pub positive : (r : Refusal) → 0 < refusal_code r
+positive r = grind arith
 
-  pub by-terms : (q : Read Terms) → length s ≤ 65536 → read_terms s ≡ q → by_text lines s ≡ by_terms lines q
-  by-terms q l e = simp (le-ltb 65536 (length s) l, e)
+-- ---- the terms of a text
 
-module _ (t : Terms) (o : Opened) (is : o ≡ open_of t) where
-  code_is : o.code ≡ terms_code t
-  code_is = ap (λ (p : Opened). p.code) is
+module _ (s : List ℕ) where
+  pub terms_long : 65536 < length s → terms_in s ≡ broken
+  terms_long l = simp (lt-ltb 65536 (length s) l)
 
-  pub valid : o.code ≡ 0 → valid_terms t ≡ true
-  valid = opened-valid t o is
+  pub terms_short : length s ≤ 65536 → terms_in s ≡ read_terms s
+  terms_short l = simp (le-ltb 65536 (length s) l)
 
-  pub refused : (lines : Terms → List ℕ → List ℕ) (s : List ℕ) → (o.code ≡ 0 → ⊥) → terms_line o.code ≡ by_terms lines (got t s)
-  refused lines s ne = let f = wrong t (λ e. ne (code_is ∙ e)) in simp f.0 (ap terms_line (code_is ∙ f.1))
+  pub short : (t : Terms) (r : List ℕ) → terms_in s ≡ got t r → (length s ≤ 65536) × (read_terms s ≡ got t r)
+  short t r e = decide (ltb 65536 (length s))
+      (λ y. absurd (subst IsGot (sym e ∙ terms_long (ltb-true 65536 (length s) y)) tt))
+      (λ n. let l = ltb-false 65536 (length s) n in (l, sym (terms_short l) ∙ e))
+
+  pub by-terms : (lines : Terms → List ℕ → List ℕ) (q : Read Terms) → terms_in s ≡ q → by_text lines s ≡ by_terms lines q
+  by-terms lines q e = as-read (ltb 65536 (length s)) (read_terms s) ∙ ap (by_terms lines) e
+    where
+      as-read : (b : Bool) (x : Read Terms) → cond b (terms_line 15) (by_terms lines x) ≡ by_terms lines (cond b broken x)
+      as-read true x = refl
+      as-read false x = refl
+
+-- ---- what is printed by the terms
+
+module _ (t : Terms) where
+  pub code-0 : valid_terms t ≡ true → terms_code t ≡ 0
+  unfolding terms_code
+  code-0 v = simp v
+
+  pub code-1 : valid_terms t ≡ false → terms_code t ≡ 1
+  unfolding terms_code
+  code-1 f = simp f
+
+  module _ (lines : Terms → List ℕ → List ℕ) (s : List ℕ) where
+    pub invalid : valid_terms t ≡ false → by_terms lines (got t s) ≡ terms_line 1
+    invalid f = simp f
+
+    pub opened : (a : Account) → IsOpened t (Ok a) → by_terms lines (got t s) ≡ lines t s
+    opened a is = simp (opened-valid t a is)
+
+    pub refused : (r : Refusal) → IsOpened t (Err r) → by_terms lines (got t s) ≡ terms_line (refusal_code r)
+    refused r is =
+        let code : refusal_code r ≡ terms_code t = ap (λ (o : Opened). o.code) is in
+        decide (valid_terms t)
+        (λ v. absurd (omega (arith, positive r, code, code-0 v)))
+        (λ f. invalid f ∙ ap terms_line (sym (code ∙ code-1 f)))
+
+  -- why `open` makes no account
+  pub refusal-is : (r : Result Account Refusal) → IsOpened t r → code_or_0 (result_err r) ≡ terms_code t
+  refusal-is (Ok a) is = ap (λ (o : Opened). o.code) is
+  refusal-is (Err e) is = ap (λ (o : Opened). o.code) is

@@ -11,6 +11,7 @@ use Rattle.account.specs.Step.{Stepped, step_of}
 use Rattle.account.specs.declared.Account.{Account}
 use Rattle.scanner.specs.Scanner.{got, broken}
 use Rattle.text.specs.Text.{read_event}
+use Rattle.text.proofs.Laws.{event-progress, event-rest}
 use Rattle.printing.specs.Printing.{Wrote}
 use Rattle.printing.proofs.Placed.{kept, wrote_then}
 use Rattle.transcript.specs.Events.{fold_by, fold_events}
@@ -20,7 +21,6 @@ use Rattle.std.proofs.Common.{Option, None, take_all}
 use Rattle.ledger.specs.declared.Refusal.{Refusal}
 use Rattle.transcript.specs.declared.Progress.{Progress}
 use Rattle.transcript.specs.Progress.{Reached, reached}
-use Rattle.transcript.proofs.Rests.{event-rest}
 use Rattle.transcript.proofs.Whole.{nothing_written, piece-of, events-left, by-events}
 use Rattle.transcript.proofs.Counts.{fold-got, fold-broken, fold_end, piece-end, piece-pause, piece-broken, piece-got, counts-suffice}
 
@@ -148,14 +148,15 @@ from-place text at = take_all (length text - at) (drop at text) (omega (arith, l
 -- where the next event starts
 pub next-event : (text : List ℕ) (at : ℕ) (e : Event) (r : List ℕ) → at < length text → read_event (drop at text) ≡ got e r → read_event (drop at text) ≡ got e (drop (length text - length r) text)
 next-event text at e r h g =
-    let rest = event-rest (drop at text) e r g in
-    let there : drop (length text - length r) text ≡ r =
-    ap (λ (k : ℕ). drop k text) (omega (arith, length-drop at text, rest.1)) ∙ sym (drop-drop (length (drop at text) - length r) at text) ∙ rest.0 in
-    rw (sym there) at g
+    let there : r ≡ drop (length text - length r) text =
+    event-rest (drop at text) e r g
+    ∙ drop-drop (length (drop at text) - length r) at text
+    ∙ ap (λ (k : ℕ). drop k text) (omega (arith, length-drop at text, event-progress (drop at text) e r g)) in
+    rw there at g
 
--- the buffer and the progress that are left are the printer's and the loop's
-pub left-as : {text : List ℕ} {p : Reached} {first : List ℕ} (out : List ℕ) {last : List ℕ} (b : Progress) (n : ℕ) (done : Bool) → last ≡ out → b.refusal ≡ None → b.done ≡ done
-    → Piece text p first out (among_events b.account b.at b.count n done) → Piece text p first last (reached b n)
-left-as {text} {p} {first} out {last} b n done e none d m =
+-- the progress that is left is the loop's
+pub left-as : {text : List ℕ} {p : Reached} {first out : List ℕ} (b : Progress) (n : ℕ) (done : Bool) → b.refusal ≡ None → b.done ≡ done
+    → Piece text p first out (among_events b.account b.at b.count n done) → Piece text p first out (reached b n)
+left-as {text} {p} {first} {out} b n done none d m =
     let is : reached b n ≡ among_events b.account b.at b.count n done = ap₂ (λ (r : Option Refusal) (x : Bool). reached (record b { refusal = r; done = x }) n) none d in
-    subst (λ (l : List ℕ). Piece text p first l (reached b n)) (sym e) (subst (λ (r : Reached). Piece text p first out r) (sym is) m)
+    subst (λ (r : Reached). Piece text p first out r) (sym is) m

@@ -1,6 +1,6 @@
 -- A piece at the start of the buffer, all pieces together, and the whole transcript. Assumes nothing.
 use Prim.Native.Nat.{ℕ, suc, ◌+◌, ◌*◌, ◌-◌, ◌≤◌, ◌<◌}
-use mathlib.Core.Path.{◌≡◌, refl, sym, ap, ap₂, ◌∙◌}
+use mathlib.Core.Path.{◌≡◌, refl, sym, ap, ap₂, subst, ◌∙◌}
 use mathlib.Core.Bool.{Bool, true, false, cond, true≢false}
 use mathlib.Core.List.{List, [], ◌++◌, append-nil}
 use native.Mathlib.Nat.{zero-add}
@@ -86,6 +86,10 @@ module _ (s b : List ℕ) (p : Reached) where
 
     pub too_many : p.done ≡ false → p.at < p.count → Piece s p b b (with_length p 0 true)
     too_many d h = no-piece s b p true (simp (le-ltb (length b) 174 roomy, d, lt-ltb p.at p.count h)) (none_left s p d h) (λ g. refl)
+
+-- the buffer that is left is the printer's
+pub in-buffer : {s : List ℕ} {p q : Reached} {b : List ℕ} (out : List ℕ) {last : List ℕ} → last ≡ out → Piece s p b out q → Piece s p b last q
+in-buffer {s} {p} {q} {b} out e m = subst (λ (l : List ℕ). Piece s p b l q) (sym e) m
 
 -- the line of terms that are malformed or refused
 pub refused : (s : List ℕ) (p : Reached) {b after : List ℕ} {r : ℕ} → p.done ≡ false → p.count ≤ p.at → (p.code ≡ 0 → ⊥) → 174 ≤ length b

@@ -5,12 +5,13 @@
 
 ghost use Rattle.std.specs.Prelude.{◌≡◌, false, None, ◌+◌, ◌≤◌, length};
 ghost use Rattle.ledger.specs.Refusals.{code_of, value_of};
+ghost use Rattle.account.specs.Record.{fresh};
 ghost use Rattle.printing.specs.Printer.{Writes};
-ghost use Rattle.terms.specs.Terms.{zero_terms};
-ghost use Rattle.transcript.specs.Transcript.{WholeTranscript};
+ghost use Rattle.scanner.specs.Scanner.{IsRead};
+ghost use Rattle.transcript.specs.Transcript.{WholeTranscript, terms_in};
 ghost use Rattle.transcript.specs.Work.{account_line, account_last_line};
-ghost use Rattle.transcript.specs.Progress.{reached};
-ghost use Rattle.transcript.specs.Pieces.{event_room, last_room, piece_room, start_of, Begun, Piece};
+ghost use Rattle.transcript.specs.Progress.{code_or_0, reached};
+ghost use Rattle.transcript.specs.Pieces.{event_room, last_room, piece_room, progress_of, Begun, Piece};
 ghost use Rattle.transcript.specs.Counts.{CountsSuffice};
 
 use account::Account;
@@ -72,9 +73,21 @@ pub fn counts_suffice()
     ensures { CountsSuffice }
 {}
 
+// The terms and the text's rest; none where they break their form, or where the text is too long.
+pub fn read_terms(text: &[u8]) -> Option<(Terms, &[u8])>
+    ensures { IsRead (terms_in text.now) result }
+{
+    if text.len() > text::MAX_TEXT {
+        return None;
+    }
+    text::read_terms(text)
+}
+
 impl Progress {
-    // Before the first piece.
-    fn start(terms: Terms, at: usize, refusal: Option<Refusal>) -> Progress {
+    // At a place of the text, with nothing printed.
+    fn start(terms: Terms, at: usize, refusal: Option<Refusal>) -> Progress
+        ensures { reached result 0 ≡ progress_of (fresh terms) at 0 (code_or_0 refusal) 0 false }
+    {
         Progress {
             account: Account::fresh(terms),
             at,
@@ -88,13 +101,13 @@ impl Progress {
     pub fn begin(text: &[u8]) -> Progress
         ensures { Begun text.now (reached result 0) }
     {
-        if text.len() > text::MAX_TEXT {
-            return Progress::start(Terms::default(), 0, Some(Refusal::Form));
+        match read_terms(text) {
+            Some((terms, rest)) => {
+                let refusal = account::open(terms).err();
+                Progress::start(terms, text.len() - rest.len(), refusal)
+            }
+            None => Progress::start(Terms::default(), 0, Some(Refusal::Form)),
         }
-        let Some((terms, rest)) = text::read_terms(text) else {
-            return Progress::start(Terms::default(), 0, Some(Refusal::Form));
-        };
-        Progress::start(terms, text.len() - rest.len(), account::open(terms).err())
     }
 
     // The lines of the events, while there is room for one and for the last line, and the last line.

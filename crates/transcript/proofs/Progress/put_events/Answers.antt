@@ -4,6 +4,7 @@ use lib.ListN.{length-drop}
 use Rattle.account.specs.Step.{stepped_of}
 use Rattle.printing.specs.Printer.{Writes}
 use Rattle.transcript.specs.Progress.{code_or_0}
+use Rattle.transcript.proofs.Whole.{in-buffer}
 use Rattle.transcript.proofs.Turn.{begins, sized, turns, pauses, stops, ends, room_left, from-place, next-event, left-as}
 use Rattle.transcript.proofs.Progress.put_events.Goals.{else-loop-self-test, then-loop-self-test+else-page-lt-PIECE_ROOM+in_default}
 use Rattle.transcript.proofs.Progress.put_events.Goals as goal
@@ -18,8 +19,9 @@ pub returns-then-page-lt-PIECE_ROOM : goal.returns-then-page-lt-PIECE_ROOM
 returns-then-page-lt-PIECE_ROOM c =
     let r = c.requires in
     let i = c.loop-self.invariant in
-    left-as c.loop-self.page.out.now c.loop-self.self _ _ (search (rules, sym i.0)) i.1 i.2
-    (pauses _ _ _ _ _ _ _ _ i.3 r.0 (ap code_or_0 r.1) r.2 r.3 c.loop-self-test.true c.if-page-lt-PIECE_ROOM.true)
+    in-buffer c.loop-self.page.out.now (search (rules, sym i.0))
+    (left-as c.loop-self.self _ _ i.1 i.2
+    (pauses _ _ _ _ _ _ _ _ i.3 r.0 (ap code_or_0 r.1) r.2 r.3 c.loop-self-test.true c.if-page-lt-PIECE_ROOM.true))
 
 pub slice_bounds-read_event-count : goal.slice_bounds-read_event-count
 slice_bounds-read_event-count c = omega (arith, c.loop-self-test.true)
@@ -70,10 +72,12 @@ returns c =
     elim c.loop-self-test.branch [
       | else-loop-self-test w ↦
           let v : Writes c.loop-self.page _ p = rw w.page-is at c.put_last_line.ensures in
-          left-as p.out.now (record c.loop-self.self { done = true }) p.at true (search (rules, sym (v.same ∙ i.0))) i.1 refl
-          (ends _ _ _ _ _ _ _ _ i.3 r.0 (ap code_or_0 r.1) r.2 r.3 _ _ w.loop-self-test.false v.wrote)
+          in-buffer p.out.now (search (rules, sym (v.same ∙ i.0)))
+          (left-as (record c.loop-self.self { done = true }) p.at true i.1 refl
+          (ends _ _ _ _ _ _ _ _ i.3 r.0 (ap code_or_0 r.1) r.2 r.3 _ _ w.loop-self-test.false v.wrote))
       | then-loop-self-test+else-page-lt-PIECE_ROOM+in_default w ↦
           let v : Writes w.put_event.new.page _ p = rw w.page-is at c.put_last_line.ensures in
-          left-as p.out.now (record c.loop-self.self { done = true }) p.at true (search (rules, sym (v.same ∙ w.put_event.ensures.printed.same ∙ i.0))) i.1 refl
-          (stops _ _ _ _ _ _ _ _ i.3 r.0 (ap code_or_0 r.1) r.2 r.3 _ _ _ _ w.loop-self-test.true w.if-page-lt-PIECE_ROOM.false (rw (from-place c.args.text.now c.loop-self.self.at) at w.in_default.ensures.read) w.put_event.ensures.printed.wrote v.wrote)
+          in-buffer p.out.now (search (rules, sym (v.same ∙ w.put_event.ensures.printed.same ∙ i.0)))
+          (left-as (record c.loop-self.self { done = true }) p.at true i.1 refl
+          (stops _ _ _ _ _ _ _ _ i.3 r.0 (ap code_or_0 r.1) r.2 r.3 _ _ _ _ w.loop-self-test.true w.if-page-lt-PIECE_ROOM.false (rw (from-place c.args.text.now c.loop-self.self.at) at w.in_default.ensures.read) w.put_event.ensures.printed.wrote v.wrote))
     ]
