@@ -6,7 +6,7 @@ use mathlib.Core.Bool.{Bool, true, false, cond, ◌&&◌}
 use mathlib.Core.List.{List, [], ◌∷◌, map}
 use lib.Dec.{leb, eqb, eqb-suc-zero}
 use borrow.Author.Tests.{eqb-true, leb-true}
-use Rattle.core.specs.Int.{from_bool}
+use Rattle.std.specs.Int.{from_bool}
 use Rattle.std.specs.List.{list_all}
 use Rattle.ledger.proofs.Cases.{both}
 use Rattle.moves.proofs.Ways.{yes}

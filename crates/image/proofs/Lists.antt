@@ -5,7 +5,7 @@ use mathlib.Core.Path.{◌≡◌, sym, ◌∙◌}
 use mathlib.Core.List.{List, map}
 use lib.ListN.{length}
 use denote.Param.Members.{Mut, Called}
-use Rattle.core.specs.Array.{IsMapOf}
+use Rattle.std.specs.Array.{IsMapOf}
 use Rattle.std.proofs.lemmas.List.{ext_get_or, get_or-map, length-map}
 
 -- calls that each give f, at each element in turn

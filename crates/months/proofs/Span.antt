@@ -8,7 +8,7 @@ use mathlib.Core.List.{List}
 use lib.ListN.{get_or}
 use lib.Dec.{ltb, leb, eqb}
 use borrow.Author.Tests.{lt-ltb, le-leb, leb-true, leb-false, ltb-true, eqb-true, eqb-false, ne_eqb}
-use Rattle.core.specs.declared.iter.ranges.Range.{Range}
+use Rattle.std.specs.declared.ops.Range.{Range}
 use Rattle.calendar.specs.declared.Date.{Date}
 use Rattle.calendar.specs.Calendar.{date_on, month_from, is_day, MonthDays}
 use Rattle.calendar.specs.Days.{any_day}

@@ -9,7 +9,7 @@ use mathlib.Core.Bool.{Bool, true, false, beq, cond, not, ◌&&◌, and-false}
 use mathlib.Core.List.{List}
 use lib.ListN.{get_or}
 use borrow.Author.Tests.{lt-ltb, le-ltb, le-leb, lt-leb}
-use Rattle.core.specs.declared.iter.ranges.Range.{Range}
+use Rattle.std.specs.declared.ops.Range.{Range}
 use Rattle.calendar.specs.Calendar.{total}
 use Rattle.ledger.specs.declared.Counted.{Counted}
 use Rattle.ledger.specs.declared.Used.{Used}

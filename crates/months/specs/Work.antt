@@ -1,6 +1,6 @@
 -- What the private functions of the month summary answer. No promise to others cites these.
 use Rattle.std.specs.Prelude.{ℕ, Bool, true, false, ◌&&◌, List, ltb, leb}
-use Rattle.core.specs.declared.iter.ranges.Range.{Range}
+use Rattle.std.specs.declared.ops.Range.{Range}
 use Rattle.ledger.specs.declared.Used.{Used}
 use Rattle.ledger.specs.Entries.{estimate_cost_of}
 use Rattle.ledger.specs.Months.{metered_wh_of, metered_cost_of, estimated_wh_of}
