@@ -1,11 +1,9 @@
 -- The days of a month, as `calendar::days_of` answers them, and the summary over them.
 -- Assumes nothing.
-use Prim.Native.Nat.{ℕ, ◌+◌, ◌*◌, ◌≤◌, ◌<◌}
+use Prim.Native.Nat.{ℕ, ◌≤◌, ◌<◌}
 use native.Mathlib.Omega.{arith}
 use mathlib.Core.Path.{◌≡◌, sym, ◌∙◌}
-use mathlib.Core.Bool.{Bool, true, false, ◌&&◌, and-false}
-use mathlib.Core.List.{List}
-use lib.ListN.{get_or}
+use mathlib.Core.Bool.{true, false, and-false}
 use lib.Dec.{ltb, leb, eqb}
 use borrow.Author.Tests.{lt-ltb, le-leb, leb-true, leb-false, ltb-true, eqb-true, eqb-false, ne_eqb}
 use Rattle.std.specs.declared.ops.Range.{Range}
@@ -13,14 +11,11 @@ use Rattle.calendar.specs.declared.Date.{Date}
 use Rattle.calendar.specs.Calendar.{date_on, month_from, is_day, MonthDays}
 use Rattle.calendar.specs.Days.{any_day}
 use Rattle.calendar.proofs.Laws.{month-limit}
-use Rattle.ledger.specs.declared.Counted.{Counted}
-use Rattle.ledger.specs.declared.Used.{Used}
-use Rattle.ledger.specs.declared.Summary.{Summary}
-use Rattle.ledger.specs.Months.{average_of, no_summary}
+use Rattle.ledger.specs.Months.{no_summary}
 use Rattle.ledger.proofs.Cases.{decide}
 use Rattle.moves.specs.Moves.{is_account}
 use Rattle.account.specs.declared.Account.{Account}
-use Rattle.months.specs.Summary.{in_month_of, payment_kept, payment_reversed, counted_by, metered_by, estimated_by, charges_of, max_charge_sum, summary_by, summary_of}
+use Rattle.months.specs.Summary.{in_month_of, payment_kept, payment_reversed, counted_by, metered_by, estimated_by, charges_of, figures_by, summary_by, summary_of}
 use Rattle.months.specs.Work.{span}
 use Rattle.months.proofs.Sums.{any_none, any_some}
 
@@ -64,19 +59,6 @@ module _ (o : Date) (m : ℕ) (r : Range ℕ) (g : MonthDays o m r) where
       let d = day-of r.start g.order in
       omega (arith, month-limit o r.start d, (g.days r.start d).1 (omega arith, g.order))
 
--- the figures where no sum of charges is past the bound
-abbrev pub figures_over : Counted → Counted → Used → Used → List ℕ → Summary
-figures_over kept reversed metered_use estimated_use charges = record {
-  code = 0;
-  kept = kept;
-  reversed = reversed;
-  metered = metered_use;
-  estimated = estimated_use;
-  charges = charges;
-  average = average_of (metered_use.cost + estimated_use.cost + get_or charges 0 0 + get_or charges 1 0) (metered_use.wh + estimated_use.wh);
-  missing = eqb (metered_use.wh + estimated_use.wh) 0;
-}
-
 pub summary-other : (a : Account) (m : ℕ) → is_account a.terms a.totals ≡ false → no_summary 1 ≡ summary_of a m
 summary-other a m f = rw f
 
@@ -87,20 +69,12 @@ module _ (a : Account) (m : ℕ) (i : is_account a.terms a.totals ≡ true) wher
       let e : any_day (in_month_of a.terms.opened m) 400 ≡ false = any_none _ 400 (λ k h. never a.terms.opened m n k) in
       rw (i, e)
 
-  module _ (r : Range ℕ) (g : MonthDays a.terms.opened m r) where
-    abbrev small : Bool
-    small = leb (get_or a.charges (5 * m) 0) max_charge_sum && leb (get_or a.charges (5 * m + 1) 0) max_charge_sum
-
-    pub summary-over : small ≡ false → no_summary 1 ≡ summary_of a m
-    unfolding summary_by
-    summary-over f = rw (i, some a.terms.opened m r g, f)
-
-    pub summary-some : small ≡ true
-        → figures_over
-        (counted_by (span r) payment_kept a.payments a.totals.count)
-        (counted_by (span r) payment_reversed a.payments a.totals.count)
-        (metered_by (span r) a.days 400)
-        (estimated_by (span r) a.days 400)
-        (charges_of a.charges m) ≡ summary_of a m
-    unfolding summary_by
-    summary-some t = rw (i, some a.terms.opened m r g, spans a.terms.opened m r g, t)
+  pub summary-some : (r : Range ℕ) → MonthDays a.terms.opened m r
+      → figures_by
+      (counted_by (span r) payment_kept a.payments a.totals.count)
+      (counted_by (span r) payment_reversed a.payments a.totals.count)
+      (metered_by (span r) a.days 400)
+      (estimated_by (span r) a.days 400)
+      (charges_of a.charges m) ≡ summary_of a m
+  unfolding summary_by
+  summary-some r g = rw (i, some a.terms.opened m r g, spans a.terms.opened m r g)

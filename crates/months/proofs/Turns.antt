@@ -13,15 +13,12 @@ use Rattle.std.specs.declared.ops.Range.{Range}
 use Rattle.calendar.specs.Calendar.{total}
 use Rattle.ledger.specs.declared.Counted.{Counted}
 use Rattle.ledger.specs.declared.Used.{Used}
-use Rattle.ledger.specs.Entries.{UsageDay, estimate_cost_of}
-use Rattle.ledger.specs.Months.{metered_wh_of, metered_cost_of, estimated_wh_of}
+use Rattle.ledger.specs.Entries.{UsageDay}
 use Rattle.account.specs.Record.{blank_day, no_payment}
-use Rattle.moves.specs.declared.Usage.{Usage}
-use Rattle.moves.specs.declared.Usage.TheVariants.{Blank, Estimated, Metered}
 use Rattle.moves.specs.declared.Day.{Day}
 use Rattle.moves.specs.declared.Payment.{Payment}
 use Rattle.months.specs.Summary.{counted_by, payments_by, state_of, usage_by}
-use Rattle.months.specs.Work.{span, is_kept_as, used_on, used_by}
+use Rattle.months.specs.Work.{span, is_kept_as, wh_as, cost_as, used_on, used_by}
 use Rattle.months.proofs.Sums.{total-none, total-rest}
 
 -- ---- payments
@@ -59,8 +56,7 @@ module _ (r : Range ℕ) (l : List Day) where
   before f = total-none _ r.start (λ k h. simp (lt-leb r.start k h))
 
   pub used-none : (b : Bool) (u : Used) → (u.wh ≡ 0) × (u.cost ≡ 0) → u ≡ used_by (span r) b l r.start
-  used-none true u h k = record { wh = (h.0 ∙ sym (before metered_wh_of)) k; cost = (h.1 ∙ sym (before metered_cost_of)) k }
-  used-none false u h k = record { wh = (h.0 ∙ sym (before estimated_wh_of)) k; cost = (h.1 ∙ sym (before estimate_cost_of)) k }
+  used-none b u h k = record { wh = (h.0 ∙ sym (before (wh_as b))) k; cost = (h.1 ∙ sym (before (cost_as b))) k }
 
   module _ (i : ℕ) (h : r.start + i < r.end) where
     more : (f : UsageDay → ℕ) → usage_by (span r) f l (r.start + i) + f (state_of (get_or l (r.start + i) blank_day).usage) ≡ usage_by (span r) f l (r.start + (i + 1))
@@ -72,8 +68,7 @@ module _ (r : Range ℕ) (l : List Day) where
 
     pub used-turn : (b : Bool) (u v : Used) → u ≡ used_by (span r) b l (r.start + i) → v ≡ used_on b (get_or l (r.start + i) blank_day).usage
         → record { wh = u.wh + v.wh; cost = u.cost + v.cost } ≡ used_by (span r) b l (r.start + (i + 1))
-    used-turn true u v e f = rw (e, f) (λ k. record { wh = more metered_wh_of k; cost = more metered_cost_of k })
-    used-turn false u v e f = rw (e, f) (λ k. record { wh = more estimated_wh_of k; cost = more estimate_cost_of k })
+    used-turn b u v e f = rw (e, f) (λ k. record { wh = more (wh_as b) k; cost = more (cost_as b) k })
 
   after : (f : UsageDay → ℕ) → r.end ≤ 400 → usage_by (span r) f l r.end ≡ usage_by (span r) f l 400
   unfolding usage_by
@@ -83,5 +78,4 @@ module _ (r : Range ℕ) (l : List Day) where
       ∙ total-rest _ r.end (400 - r.end) (λ k b. simp (le-ltb k r.end b, and-false)))
 
   pub used_all : (b : Bool) → r.end ≤ 400 → used_by (span r) b l r.end ≡ used_by (span r) b l 400
-  used_all true h k = record { wh = after metered_wh_of h k; cost = after metered_cost_of h k }
-  used_all false h k = record { wh = after estimated_wh_of h k; cost = after estimate_cost_of h k }
+  used_all b h k = record { wh = after (wh_as b) h k; cost = after (cost_as b) h k }

@@ -1,10 +1,16 @@
 -- Off the record, and so in the ledger's terms.
-use Rattle.std.proofs.Common.{arith, sym, ◌∙◌}
+use Rattle.std.proofs.Common.{arith, ◌≡◌, ℕ, ◌+◌, ◌*◌, Bool, true, false, ◌&&◌, leb, get_or, sym, ◌∙◌}
 use Rattle.std.proofs.lemmas.Bool.Decides.{nat_tests}
+use Rattle.account.specs.declared.Account.{Account}
+use Rattle.months.specs.Summary.{max_charge_sum}
 use Rattle.moves.proofs.Early.{in_reach}
-use Rattle.months.proofs.Span.{month-small, summary-other, summary-none, summary-over, summary-some}
+use Rattle.months.proofs.Span.{month-small, summary-other, summary-none, summary-some}
 use Rattle.months.proofs.Agrees.{promised}
 use Rattle.months.proofs.summary.Goals as goal
+
+-- no sum of charges in the average is past the bound
+abbrev small : Account → ℕ → Bool
+small a m = leb (get_or a.charges (5 * m) 0) max_charge_sum && leb (get_or a.charges (5 * m + 1) 0) max_charge_sum
 
 pub returns-then-not-is_account : goal.returns-then-not-is_account
 returns-then-not-is_account c =
@@ -23,7 +29,8 @@ pub returns-then-delivery-gt-MAX_CHARGE_SUM : goal.returns-then-delivery-gt-MAX_
 returns-then-delivery-gt-MAX_CHARGE_SUM c =
     let a = c.args in
     let e = rw c.charges_in-charges.ensures at c.then-delivery-gt-MAX_CHARGE_SUM.either in
-    promised a.a.now a.m _ (summary-over a.a.now a.m (sym c.if-not-is_account.ensures) _ c.in-Some.ensures (grind (arith, nat_tests)))
+    let f : small a.a.now a.m ≡ false = grind (arith, nat_tests) in
+    promised a.a.now a.m _ (rw f at (summary-some a.a.now a.m (sym c.if-not-is_account.ensures) _ c.in-Some.ensures))
 
 pub paid_in-requires : goal.paid_in-requires
 paid_in-requires c = (in_reach _ _ (sym c.if-not-is_account.ensures)).count
@@ -44,5 +51,6 @@ returns c =
     let w = rw (m, u) at c.average.ensures.missing in
     let delivery = rw s at c.if-delivery-gt-MAX_CHARGE_SUM.false in
     let tax = rw s at c.if-tax-gt-MAX_CHARGE_SUM.false in
+    let t : small a c.args.m ≡ true = grind (arith, nat_tests) in
     promised a c.args.m _ ((λ k. record { code = 0; kept = kept k; reversed = reversed k; metered = m k; estimated = u k; charges = s k; average = v k; missing = w k })
-    ∙ summary-some a c.args.m i _ c.in-Some.ensures (grind (arith, nat_tests)))
+    ∙ (rw t at (summary-some a c.args.m i _ c.in-Some.ensures)))
