@@ -39,6 +39,7 @@ record Limited (t : Terms) : Type 0 where
   price : t.price ≤ 99999
   connect : t.connect ≤ 7500
   cutoff : t.cutoff ≤ 1000
+  order : t.cutoff ≤ t.connect
   share : t.share ≤ 50
 
 limited : (t : Terms) → valid_terms t ≡ true → Limited t
@@ -64,6 +65,7 @@ pub record Early (t : Terms) (s : Totals) (e : Event) : Type 0 where
   pub price : t.price ≤ 99999
   pub connect : t.connect ≤ 7500
   pub cutoff : t.cutoff ≤ 1000
+  pub order : t.cutoff ≤ t.connect
   pub share : t.share ≤ 50
   pub credit : s.credit ≤ 1152921504606846976
   pub debit : s.debit ≤ 1152921504606846976
@@ -92,6 +94,7 @@ early t s e h =
       price = l.price;
       connect = l.connect;
       cutoff = l.cutoff;
+      order = l.order;
       share = l.share;
       credit = r.credit;
       debit = r.debit;
