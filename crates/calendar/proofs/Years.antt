@@ -10,12 +10,12 @@ use native.Mathlib.Nat.{add-zero}
 use native.Mathlib.Numerals.{add-one}
 use native.Mathlib.Omega.{arith}
 use lib.Dec.{leb, ltb, eqb}
-use borrow.Author.Tests.{ltb-true, ltb-false, leb-true, eqb-true, le-leb}
+use borrow.Author.Tests.{leb-true, eqb-true, le-leb}
 use Rattle.calendar.specs.Calendar.{date, leap_year, month_days, month_length, date_exists, total, length_after, days_after, date_on, opens, date_answer}
 use Rattle.calendar.specs.Work.{days_before, year_length, InMonth, InYear}
 use Rattle.calendar.specs.declared.Date.{Date}
-use Rattle.calendar.proofs.Sums.{decide, every, every-at, total_mono}
-use Rattle.calendar.proofs.Laws.{Real, RealTo, real, opens-real, day-real, same-day}
+use Rattle.calendar.proofs.Sums.{every, every-at, total_mono}
+use Rattle.calendar.proofs.Laws.{Real, real, opens-real, day-real, same-day}
 
 -- ---- the months of a year
 

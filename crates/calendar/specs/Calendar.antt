@@ -1,5 +1,5 @@
 -- The Gregorian calendar, from its rules alone (document 01, "Opening terms").
-use Rattle.std.specs.Prelude.{ℕ, zero, suc, ◌+◌, ◌*◌, ◌-◌, ◌/◌, ◌%◌, ◌≤◌, ◌<◌, ◌≡◌, Bool, true, false, cond, not, ◌&&◌, ◌||◌, [], ◌∷◌, ◌↔◌, get_or, ltb, leb, eqb, Option, Some, None}
+use Rattle.std.specs.Prelude.{ℕ, zero, suc, ◌+◌, ◌*◌, ◌-◌, ◌/◌, ◌%◌, ◌≤◌, ◌<◌, ◌≡◌, Bool, true, cond, not, ◌&&◌, ◌||◌, [], ◌∷◌, ◌↔◌, get_or, ltb, leb, eqb, Option, Some, None}
 use Rattle.std.specs.declared.ops.Range.{Range}
 use Rattle.calendar.specs.declared.Date.{Date}
 use Rattle.calendar.specs.declared.Weekday.{Weekday}

@@ -2,7 +2,7 @@ use mathlib.Core.Path.{◌≡◌, ◌∙◌, sym, ap}
 use mathlib.Core.Bool.{true}
 use Prim.Native.Nat.{ℕ, ◌+◌}
 use lib.Dec.{leb}
-use borrow.Author.Tests.{leb-true, leb-false}
+use borrow.Author.Tests.{leb-false}
 use native.Mathlib.Omega.{arith}
 use Rattle.std.specs.Bool.{then_some}
 use Rattle.calendar.specs.Calendar.{is_in_reach, opens, is_day, date_on, days_after, DayAnswer}
