@@ -9,7 +9,7 @@ use Rattle.terms.specs.declared.Terms.{Terms}
 use Rattle.ledger.specs.declared.Event.{Event}
 use Rattle.ledger.specs.declared.Answer.{Answer}
 use Rattle.ledger.specs.Rules.{Ledger}
-use Rattle.ledger.specs.Ledger.{ledger_of}
+use Rattle.ledger.specs.Ledger.{ledger_step, ledger_of}
 use Rattle.ledger.specs.Calls.{single, row, answered, written, fed, ledger_back}
 use Rattle.ledger.proofs.Cases.{decide}
 use Rattle.account.specs.Step.{step_of}
@@ -22,9 +22,12 @@ use Rattle.posting.specs.Posting.{answer_of, Posts, row_of, PostsRow}
 -- ---- from any account that stands for a ledger
 
 module _ (t : Terms) (a : Account) (l : Ledger) (s : Represents t a l) where
+  pub answer_is : (e : Event) → answer_of (step_of a e) ≡ (ledger_step t l e).answer
+  answer_is e = λ i. record { code = (refinement-holds t s.agree.valid).code a l e s i; value = (refinement-holds t s.agree.valid).value a l e s i }
+
   pub answer_back : (e : Event) → answered (answer_of (step_of a e)) ≡ ledger_back t l (single e)
   unfolding ledger_back
-  answer_back e = λ i. answered (record { code = (refinement-holds t s.agree.valid).code a l e s i; value = (refinement-holds t s.agree.valid).value a l e s i })
+  answer_back e = ap answered (answer_is e)
 
   pub row_back : (es : List Event) (buffer : List ℕ) → written (row_of a es buffer).answer (row_of a es buffer).bytes ≡ ledger_back t l (row es buffer)
   unfolding row_of ledger_back

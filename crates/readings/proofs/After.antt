@@ -1,13 +1,13 @@
 -- What is read off the totals of an account that stands for a ledger is the ledger's.
 -- Assumes nothing.
 use mathlib.Core.Path.{◌≡◌, refl, sym, ap, ◌∙◌}
-use Prim.Native.Nat.{ℕ, ◌+◌}
-use lib.IntN.{ℤ, pos, ◌+ℤ◌, ◌-ℤ◌}
+use Prim.Native.Nat.{◌+◌}
+use lib.IntN.{ℤ, pos, ◌+ℤ◌}
 use Rattle.terms.specs.declared.Terms.{Terms}
 use Rattle.ledger.specs.Rules.{Ledger}
 use Rattle.ledger.specs.Ledger.{ledger_of}
 use Rattle.ledger.specs.Sums as sums
-use Rattle.ledger.proofs.Money.{diff, diff-add, diff-sub}
+use Rattle.ledger.proofs.Money.{diff-add, diff-sub}
 use Rattle.ledger.proofs.Identity.{settled_is}
 use Rattle.moves.specs.declared.Totals.{Totals}
 use Rattle.account.specs.declared.Account.{Account}
