@@ -86,6 +86,7 @@ fn numbers(line: &[u8]) -> [u32; 5] {
     n
 }
 
+// Each question takes numbers of its own, so a `match` is plainer than a closure for each.
 fn ask(out: &mut impl Write, word: u8, n: [u32; 5]) -> io::Result<()> {
     let opened = date(n[1]);
     match word {

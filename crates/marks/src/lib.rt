@@ -7,10 +7,10 @@ ghost use Rattle.marks.specs.Marks.{mark_bit, day_before, marked, barring_on, la
 
 use calendar::{DAY_COUNT, FINAL_DAY, SATURDAY, SUNDAY, WARNING_DAYS};
 
-// A byte for each day.
+// A byte for each day: of marks, which may hold together, so that setting one is an or and testing is a mask; or of warnings, 0 or 1.
 pub type DayBytes = [u8; DAY_COUNT as usize];
 
-// The bit of a mark kind in a day's byte.
+// The bit of a mark kind in a day's byte. A kind is a number, as in an event, and any other number has no bit.
 fn mark_bit(kind: u32) -> u8
     ensures { result ≡ mark_bit kind }
 {
@@ -44,7 +44,7 @@ pub fn barring(marks: &DayBytes, day: u32) -> bool
     day <= FINAL_DAY && marks[day as usize] & 7 != 0
 }
 
-// The newest warning of the seven days before the day.
+// The newest warning of the seven days before the day, by a backward loop that yields it by `break` (docs/DECISIONS.md names that form).
 #[tactic(auto, using(crate::proofs::Turns::latest_end, crate::proofs::Turns::latest_turn, crate::proofs::Turns::latest_past, crate::proofs::Turns::latest_back), unfolding(crate::specs::Marks::latest_warning))]
 pub fn latest(warned: &DayBytes, day: u32) -> Option<u32>
     ensures { result ≡ latest_warning warned.now day }
@@ -73,6 +73,7 @@ fn day_before(weekday: u32) -> u32
 }
 
 // Whether a weather day lies so near before or on the day that at most one business day has come since.
+// The day's weekday is any number, as callers may give one: a `Weekday` would ask more of them.
 #[tactic(auto, using(crate::proofs::Turns::near_here, crate::proofs::Turns::near_first, crate::proofs::Turns::near_spent, crate::proofs::Turns::near_weekend, crate::proofs::Turns::near_workday), unfolding(crate::specs::Marks::weather_near))]
 pub fn weather_near(marks: &DayBytes, weekday: u32, day: u32) -> bool
     ensures { result ≡ weather_near marks.now weekday day }
