@@ -20,7 +20,7 @@ pub record Opened : Type 0 where
 abbrev pub open_of : Terms → Opened
 open_of t = record { account = fresh t; code = terms_code t }
 
--- What `open` hands back: the account, or the refusal, where no event finds more than the fresh record of the refused terms.
+-- The answer of `open` as that record: refused terms have their fresh record, which is no account.
 abbrev pub opened_of : Terms → Result Account Refusal → Opened
 opened_of t (Ok a) = record { account = a; code = 0 }
 opened_of t (Err r) = record { account = fresh t; code = refusal_code r }

@@ -16,7 +16,8 @@ pub type UsageDays = [Day; DAY_COUNT as usize];
 
 pub type Payments = [Payment; MAX_PAYMENTS as usize];
 
-// One account: its terms, its totals, and what is kept by usage day, day, payment, and month with charge kind.
+// One account: its terms, its totals, and what is kept by usage day, day, payment, and month with charge kind. The head keeps it in memory of
+// its own, without a heap: so it has arrays of fixed size.
 #[derive(Clone, Copy)]
 pub struct Account {
     pub terms: Terms,

@@ -4,12 +4,13 @@ ghost use Rattle.calendar.specs.Calendar.{weekday_number, month_on, weekday_on};
 ghost use Rattle.ledger.specs.Refusals.{code_of};
 ghost use Rattle.moves.specs.Moves.{early_code};
 
-use super::{Move, Totals, is_account};
+use super::{Move, is_account};
 use calendar::{FINAL_DAY, Weekday};
 use ledger::{Event, MAX_EVENTS, Refusal};
 use terms::Terms;
 
-// An event that passed the checks, with the account's terms, and the cells before it.
+// An event that passed the checks, with the account's terms and the cells before it. Its ghost field is what the sorts' functions rest on: the
+// fields are within their limits, and no sum wraps.
 #[derive(Clone, Copy)]
 pub(crate) struct Checked {
     pub terms: Terms,
@@ -18,30 +19,24 @@ pub(crate) struct Checked {
     ghost passed: { early_code terms before.totals event ≡ 0 },
 }
 
-#[tactic(auto, unfolding(crate::specs::Moves::early_code))]
-fn early(t: Terms, s: Totals, e: Event) -> Result<(), Refusal>
-    ensures { code_of result ≡ early_code t s e }
-{
-    if !is_account(t, s) {
-        return Err(Refusal::Terms);
-    }
-    if e.day < s.last || e.day > FINAL_DAY {
-        return Err(Refusal::Day);
-    }
-    limits::check(e)?;
-    if s.events >= MAX_EVENTS {
-        return Err(Refusal::Full);
-    }
-    Ok(())
-}
-
 impl Checked {
     // Refused by 1 where the record is no account, then by 2, 3 or 4.
+    #[tactic(auto, unfolding(crate::specs::Moves::early_code))]
     pub(crate) fn new(terms: Terms, before: Move, event: Event) -> Result<Checked, Refusal>
         ensures code { code_of result ≡ early_code terms before.totals event }
         ensures same { IfOk result (λ c. (c.terms ≡ terms) × (c.before ≡ before) × (c.event ≡ event)) }
     {
-        early(terms, before.totals, event)?;
+        let s = before.totals;
+        if !is_account(terms, s) {
+            return Err(Refusal::Terms);
+        }
+        if event.day < s.last || event.day > FINAL_DAY {
+            return Err(Refusal::Day);
+        }
+        limits::check(event)?;
+        if s.events >= MAX_EVENTS {
+            return Err(Refusal::Full);
+        }
         Ok(Checked {
             terms,
             before,

@@ -73,7 +73,7 @@ impl Totals {
     }
 }
 
-// A mark to be set from day `from` to day `to`.
+// A mark to be set from day `from` to day `to`; the kind is the event's number.
 #[derive(Clone, Copy, Debug, PartialEq, Eq)]
 pub struct Mark {
     pub kind: u32,
