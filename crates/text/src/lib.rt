@@ -74,52 +74,28 @@ fn read_sort(text: &[u8]) -> Option<(u32, &[u8])>
 fn read_fields(text: &[u8], event: Event) -> Option<(Event, &[u8])>
     ensures { IsRead (read_fields (fields_in sorts event.sort) event text.now) result }
 {
+    let mut event = event;
+    let mut rest = text;
     match event.sort {
-        1 | 3 => {
-            let (amount, rest) = scanner::read_number(text, b"amount")?;
-            Some((Event { amount, ..event }, rest))
-        }
-        2 => {
-            let (number, rest) = scanner::read_number(text, b"number")?;
-            Some((Event { number, ..event }, rest))
-        }
-        4 | 8 | 9 => {
-            let (kind, rest) = scanner::read_number(text, b"kind")?;
-            match event.sort {
-                4 => {
-                    let (amount, rest) = scanner::read_number(rest, b"amount")?;
-                    Some((
-                        Event {
-                            kind,
-                            amount,
-                            ..event
-                        },
-                        rest,
-                    ))
-                }
-                8 => {
-                    let (from, rest) = scanner::read_number(rest, b"from")?;
-                    let (to, rest) = scanner::read_number(rest, b"to")?;
-                    Some((
-                        Event {
-                            kind,
-                            from,
-                            to,
-                            ..event
-                        },
-                        rest,
-                    ))
-                }
-                _ => Some((Event { kind, ..event }, rest)),
-            }
+        1 | 3 => (event.amount, rest) = scanner::read_number(text, b"amount")?,
+        2 => (event.number, rest) = scanner::read_number(text, b"number")?,
+        4 => {
+            (event.kind, rest) = scanner::read_number(text, b"kind")?;
+            (event.amount, rest) = scanner::read_number(rest, b"amount")?;
         }
         5 | 6 => {
-            let (usage, rest) = scanner::read_number(text, b"usage")?;
-            let (wh, rest) = scanner::read_number(rest, b"wh")?;
-            Some((Event { usage, wh, ..event }, rest))
+            (event.usage, rest) = scanner::read_number(text, b"usage")?;
+            (event.wh, rest) = scanner::read_number(rest, b"wh")?;
         }
-        _ => Some((event, text)),
+        8 => {
+            (event.kind, rest) = scanner::read_number(text, b"kind")?;
+            (event.from, rest) = scanner::read_number(rest, b"from")?;
+            (event.to, rest) = scanner::read_number(rest, b"to")?;
+        }
+        9 => (event.kind, rest) = scanner::read_number(text, b"kind")?,
+        _ => {}
     }
+    Some((event, rest))
 }
 
 // The shortest event, `day=0` and `do=warn`, has 14 bytes.
@@ -130,16 +106,11 @@ pub fn read_event(text: &[u8]) -> Option<(Event, &[u8])>
 {
     let (day, rest) = scanner::read_number(text, b"day")?;
     let (sort, rest) = read_sort(rest)?;
+    // a field that the sort does not name stays 0
     let event = Event {
         sort,
         day,
-        amount: 0,
-        number: 0,
-        kind: 0,
-        usage: 0,
-        wh: 0,
-        from: 0,
-        to: 0,
+        ..Event::default()
     };
     read_fields(rest, event)
 }
