@@ -52,8 +52,8 @@ impl Checked {
         // the cost of the estimate that the read takes back
         let old = match before.day.usage {
             Usage::Blank => 0,
-            Usage::Estimated { wh: _, cost } => cost as u64,
-            Usage::Metered { wh: _, cost: _ } => return Err(Refusal::UsageState),
+            Usage::Estimated { cost, .. } => cost as u64,
+            Usage::Metered { .. } => return Err(Refusal::UsageState),
         };
         let cost = tariff::cost(e.wh, self.terms.price);
         let s = before.totals.tallied(e.day);
