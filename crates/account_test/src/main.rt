@@ -248,7 +248,9 @@ fn five() -> [Event; 5] {
 fn row_posted(rt: &impl Print, mut a: Account, line: &str) -> io::Result<Account> {
     let [events, bytes] = numbers::<2>(line);
     let mut buffer = [7; 8];
-    let codes = &mut buffer[..(bytes as usize).min(8)];
+    let Some(codes) = buffer.get_mut(..bytes as usize) else {
+        return Ok(a);
+    };
     let answer = if events == 0 {
         row_of(&mut a, [], codes)
     } else {
