@@ -157,71 +157,67 @@ fn compare(rt: &impl Print, s: Totals, t: Totals) -> io::Result<()> {
 // ---- what a line does to an account
 
 // Where the terms are refused there is no account: each event of the record gets 1. A fresh account has every total 0, and service off.
-fn opened(rt: &impl Print, t: Terms, is_case: bool) -> io::Result<Account> {
+fn opened(rt: &impl Print, a: &mut Account, t: Terms, is_case: bool) -> io::Result<()> {
     let opening = account::open(t);
-    let a = opening.unwrap_or(Account::fresh(t));
-    if is_case {
-        print!(rt; " {}", code(opening))?;
-        compare(rt, a.totals, Totals::default())?;
+    *a = opening.unwrap_or(Account::fresh(t));
+    if !is_case {
+        return Ok(());
     }
-    Ok(a)
+    print!(rt; " {}", code(opening))?;
+    compare(rt, a.totals, Totals::default())
 }
 
 // One event is posted by value, and is held to its value too, and to the totals after it.
-fn posted_once(rt: &impl Print, a: Account, e: Event, is_case: bool) -> io::Result<Account> {
-    let p = posting::post_by_value(a, e);
-    let after = p.account;
-    if is_case {
-        let code = code(p.answer);
-        print!(rt; " {code} {}", p.answer.unwrap_or(0))?;
-        say_sums(rt, after.totals)?;
-        compare(rt, after.totals, asked(code, e, a.totals, after.totals))?;
+fn posted_once(rt: &impl Print, a: &mut Account, e: Event, is_case: bool) -> io::Result<()> {
+    let before = a.totals;
+    let p = posting::post_by_value(*a, e);
+    *a = p.account;
+    if !is_case {
+        return Ok(());
     }
-    Ok(after)
+    let code = code(p.answer);
+    print!(rt; " {code} {}", p.answer.unwrap_or(0))?;
+    say_sums(rt, a.totals)?;
+    compare(rt, a.totals, asked(code, e, before, a.totals))
 }
 
-// The event; or, where each number is asked for, the event with i as its payment number and its usage day.
-fn numbered(e: Event, i: u32, each: bool) -> Event {
-    if each {
-        Event {
-            number: i,
-            usage: i,
-            ..e
-        }
-    } else {
-        e
-    }
-}
-
-// Posts the event n times, and once at least. What is said is the code, or 99, which no line asks, where the codes differ; and the balance and
-// the plan after the last.
-fn posted_often(
+// Posts n events, and one at least. What is said is the code, or 99, which no line asks, where the codes differ; and the balance and the plan
+// after the last.
+fn posted_often<F: Fn(u32) -> Event>(
     rt: &impl Print,
-    mut a: Account,
-    e: Event,
+    a: &mut Account,
     n: u32,
-    each: bool,
+    event: F,
     is_case: bool,
-) -> io::Result<Account> {
-    let first = posting::post(&mut a, numbered(e, 0, each));
+) -> io::Result<()>
+    requires { F.IsAlwaysCallable event }
+{
+    let first = posting::post(a, event(0));
     let mut all_same = true;
     for i in 1..n {
-        let answer = posting::post(&mut a, numbered(e, i, each));
+        let answer = posting::post(a, event(i));
         all_same = all_same && code(answer) == code(first);
     }
-    if is_case {
-        let code = if all_same { code(first) } else { 99 };
-        print!(rt; " {code}")?;
-        say_sums(rt, a.totals)?;
+    if !is_case {
+        return Ok(());
     }
-    Ok(a)
+    let code = if all_same { code(first) } else { 99 };
+    print!(rt; " {code}")?;
+    say_sums(rt, a.totals)
 }
 
-fn posted(rt: &impl Print, a: Account, e: Event, way: Way, is_case: bool) -> io::Result<Account> {
+fn posted(rt: &impl Print, a: &mut Account, e: Event, way: Way, is_case: bool) -> io::Result<()> {
     match way {
         Way::Once => posted_once(rt, a, e, is_case),
-        Way::Times(n) => posted_often(rt, a, e, n, false, is_case),
-        Way::Each(n) => posted_often(rt, a, e, n, true, is_case),
+        Way::Times(n) => posted_often(rt, a, n, |_| e, is_case),
+        Way::Each(n) => {
+            let numbered = |i: u32| Event {
+                number: i,
+                usage: i,
+                ..e
+            };
+            posted_often(rt, a, n, numbered, is_case)
+        }
     }
 }
 
@@ -245,44 +241,40 @@ fn five() -> [Event; 5] {
 }
 
 // A row of five events or of none, and a buffer of so many bytes, 8 at most, each of them 7.
-fn row_posted(rt: &impl Print, mut a: Account, line: &str) -> io::Result<Account> {
+fn row_posted(rt: &impl Print, a: &mut Account, line: &str) -> io::Result<()> {
     let [events, bytes] = numbers::<2>(line);
     let mut buffer = [7; 8];
     let Some(codes) = buffer.get_mut(..bytes as usize) else {
-        return Ok(a);
+        return Ok(());
     };
     let answer = if events == 0 {
-        row_of(&mut a, [], codes)
+        row_of(a, [], codes)
     } else {
-        row_of(&mut a, five(), codes)
+        row_of(a, five(), codes)
     };
     print!(rt; " {}", code(answer))?;
     for code in codes {
         print!(rt; " {code}")?;
     }
     print!(rt; " {} {}", a.totals.count, a.totals.events)?;
-    say_readings(rt, a.totals)?;
-    Ok(a)
+    say_readings(rt, a.totals)
 }
 
 // ---- the text
 
 // A part of the text: a line, or a case up to its colon. A remark and a heading begin with no word.
-fn one(rt: &impl Print, a: Account, part: &[u8]) -> io::Result<Account> {
+fn one(rt: &impl Print, a: &mut Account, part: &[u8]) -> io::Result<()> {
     rt.write_all(part)?;
     let is_case = part.ends_with(b":");
     let line = str::from_utf8(part).unwrap_or("").trim_end();
     let (word, rest) = line.split_once(' ').unwrap_or((line, ""));
     match word {
-        "terms" => opened(rt, terms(rest), is_case),
+        "terms" => opened(rt, a, terms(rest), is_case),
         "row" => row_posted(rt, a, rest),
-        "totals" => {
-            say_readings(rt, a.totals)?;
-            Ok(a)
-        }
+        "totals" => say_readings(rt, a.totals),
         _ => match event(word, rest) {
             Some(e) => posted(rt, a, e, way_of(rest), is_case),
-            None => Ok(a),
+            None => Ok(()),
         },
     }
 }
@@ -293,7 +285,7 @@ fn main(rt: HostRuntime) -> io::Result<()> {
     rt.reader().take(65536).read_to_end(&mut text)?;
     let mut a = Account::fresh(Terms::default());
     for part in text.split_inclusive(|byte| matches!(*byte, b'\n' | b':')) {
-        a = one(&rt, a, part)?;
+        one(&rt, &mut a, part)?;
     }
     Ok(())
 }
