@@ -8,7 +8,7 @@ ghost use Rattle.posting.specs.Posting.{Posts, PostsRow};
 use account::{Account, Posted, step};
 use ledger::{Answer, Event, Refusal};
 
-// One event.
+// One event. The thin form over the step by value, which the project names, copies, calls and stores; `Account::post` is the same in place.
 pub fn post(a: &mut Account, e: Event) -> Result<u64, Refusal>
     ensures { Posts a.old e a.new (answer_of result) }
 {
@@ -34,6 +34,7 @@ pub fn post_row(a: &mut Account, row: &[Event], codes: &mut [u8]) -> Result<(), 
     if codes.len() < row.len() {
         return Err(Refusal::Buffer);
     }
+    // The codes are written by index: of a slice's `iter_mut` a proof knows only the length.
     for (i, event) in row.iter().enumerate() {
         let p = step(*a, *event);
         *a = p.account;

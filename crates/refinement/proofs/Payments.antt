@@ -4,7 +4,7 @@ use Prim.Native.Nat.{ℕ, suc, ◌+◌, ◌-◌, ◌≤◌, ◌<◌}
 use native.Mathlib.Omega.{arith}
 use native.Mathlib.Nat.{mod-eq_of_lt}
 use mathlib.Core.Path.{◌≡◌, refl, sym, ap, ◌∙◌}
-use mathlib.Core.Bool.{true, false, true≢false}
+use mathlib.Core.Bool.{true, false}
 use lib.ListN.{get_or}
 use lib.Dec.{ltb, leb}
 use lib.IntN.{pos, ◌+ℤ◌, ◌-ℤ◌}
@@ -77,30 +77,24 @@ module _ (a : Account) (l : Ledger) (e : Event) (g : Agree a.terms a l) (s : Inv
     unfolding cells_before
     payment-is = ap (λ (i : ℕ). get_or a.payments i no_payment) number_is ∙ g.kept.payments e.number there
 
-    reversing : e.sort ≡ 2 → Refines a l e (reverse_of t c e)
-    unfolding effect_of reverse_of reverse_effect cells_before
-    reversing k = branch (Refines a l e) (leb a.totals.count e.number) (λ y. absurd (true≢false (sym y ∙ f)))
-        (λ _. branch (Refines a l e) c.payment.reversed
-        (λ r. refused-same a l g e 6 (reverse-code t l e h k ∙ simp (rw g.sums.count at f, sym (ap (λ (x : Payment). x.reversed) payment-is) ∙ r)) refl)
-        (λ r. accepted a l e g s h (reverse-code t l e h k ∙ simp (rw g.sums.count at f, sym (ap (λ (x : Payment). x.reversed) payment-is) ∙ r)) 2 k _ refl (reverse_effect l e)
-        (rw (number_is, g.kept.payments e.number there) (payments-reverse t a e 0 l.list g.kept (rw k refl) (rw k refl) g.sizes.payments (omega (arith, g.bounds.count, g.sums.count)) there))
-        (rw k refl) refl refl
-        (record {
-          balance = lowered a l g (paid_amount l.list e.number - paid_part l.list e.number) ∙ ap (λ (x : Payment). diff a.totals.credit (a.totals.debit + (x.amount - x.part))) (sym payment-is);
-          plan = ap (λ (x : Payment). a.totals.plan + x.part) payment-is ∙ ap (λ (x : ℕ). x + paid_part l.list e.number) g.sums.plan;
-          on = g.sums.on;
-          credit-most = omega (arith, g.bounds.credit);
-          debit-most = omega (arith, g.bounds.debit, ap (λ (x : Payment). x.amount) payment-is, g.kept.amounts e.number);
-          plan-most = omega (arith, g.bounds.plan, ap (λ (x : Payment). x.part) payment-is, g.kept.amounts e.number, s.parts e.number);
-        })))
-
   pub reverses : e.sort ≡ 2 → Refines a l e (reverse_of t c e)
-  unfolding reverse_of cells_before
-  reverses k = decide (leb a.totals.count e.number)
-      (λ y. branch (Refines a l e) (leb a.totals.count e.number)
-      (λ _. refused-same a l g e 6 (reverse-code t l e h k ∙ simp (rw g.sums.count at y)) refl)
-      (λ f. absurd (true≢false (sym y ∙ f))))
-      (λ f. reversing f k)
+  unfolding effect_of reverse_of reverse_effect cells_before
+  reverses k = branch (Refines a l e) (leb a.totals.count e.number)
+      (λ y. refused-same a l g e 6 (reverse-code t l e h k ∙ simp (rw g.sums.count at y)) refl)
+      (λ f. let is-reversed : c.payment.reversed ≡ reversed l.list e.number = ap (λ (x : Payment). x.reversed) (payment-is f) in
+      branch (Refines a l e) c.payment.reversed
+      (λ r. refused-same a l g e 6 (reverse-code t l e h k ∙ simp (rw g.sums.count at f, sym is-reversed ∙ r)) refl)
+      (λ r. accepted a l e g s h (reverse-code t l e h k ∙ simp (rw g.sums.count at f, sym is-reversed ∙ r)) 2 k _ refl (reverse_effect l e)
+      (rw (number_is f, g.kept.payments e.number (there f)) (payments-reverse t a e 0 l.list g.kept (rw k refl) (rw k refl) g.sizes.payments (omega (arith, g.bounds.count, g.sums.count)) (there f)))
+      (rw k refl) refl refl
+      (record {
+        balance = lowered a l g (paid_amount l.list e.number - paid_part l.list e.number) ∙ ap (λ (x : Payment). diff a.totals.credit (a.totals.debit + (x.amount - x.part))) (sym (payment-is f));
+        plan = ap (λ (x : Payment). a.totals.plan + x.part) (payment-is f) ∙ ap (λ (x : ℕ). x + paid_part l.list e.number) g.sums.plan;
+        on = g.sums.on;
+        credit-most = omega (arith, g.bounds.credit);
+        debit-most = omega (arith, g.bounds.debit, ap (λ (x : Payment). x.amount) (payment-is f), g.kept.amounts e.number);
+        plan-most = omega (arith, g.bounds.plan, ap (λ (x : Payment). x.part) (payment-is f), g.kept.amounts e.number, s.parts e.number);
+      })))
 
   pub credits : e.sort ≡ 3 → Refines a l e (credit_of t c e)
   unfolding effect_of credit_of cells_before
@@ -131,9 +125,9 @@ module _ (a : Account) (l : Ledger) (e : Event) (g : Agree a.terms a l) (s : Inv
 
   pub charged : e.sort ≡ 4 → Refines a l e (charge_of t c a.charges e)
   unfolding effect_of charge_of cells_before
-  charged k = branch (Refines a l e) (ltb max_total (get_or a.charges (charge_place t e) 0)) (λ y. absurd (true≢false (sym y ∙ small k)))
-      (λ _. let limit = charge-limits e k h.limits in
-      accepted a l e g s h (charge-code t l e h k) 4 k _ refl (balance_effect l 0 (l.balance -ℤ pos e.amount))
+  charged k =
+      let limit = charge-limits e k h.limits in
+      rw (small k) (accepted a l e g s h (charge-code t l e h k) 4 k _ refl (balance_effect l 0 (l.balance -ℤ pos e.amount))
       (charges-set t a e 0 l.list g.kept (rw k refl) g.sizes.charges month-is (month-limit t.opened e.day a-day) limit.kind.least limit.kind.most)
       (rw k refl) refl refl
       (record {

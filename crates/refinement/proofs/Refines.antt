@@ -56,7 +56,7 @@ module _ (a : Account) (l : Ledger) (e : Event) (s : Invariant a.terms l) (g : A
   -- the move of an event refused by the checks of every event, and of one that passes them
   early : (k : ℕ) → early_code t a.totals e ≡ k → eqb k 0 ≡ false → refusal t l e ≡ k → Refines a l e (move_of t c a.charges a.marks a.warned e)
   unfolding move_of cells_before
-  early k q f h = rw q (moves.branch (Refines a l e) (eqb k 0) (λ y. absurd (true≢false (sym y ∙ f))) (λ _. refused-same a l g e k h f))
+  early k q f h = rw (q, f) (refused-same a l g e k h f)
 
   late : Passes l e → Refines a l e (move_of t c a.charges a.marks a.warned e)
   unfolding move_of cells_before
