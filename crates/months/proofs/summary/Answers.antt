@@ -15,12 +15,12 @@ small a m = leb (get_or a.charges (5 * m) 0) max_charge_sum && leb (get_or a.cha
 pub returns-then-not-is_account : goal.returns-then-not-is_account
 returns-then-not-is_account c =
     let a = c.args in
-    promised a.a.now a.m _ (summary-other a.a.now a.m (sym c.if-not-is_account.ensures))
+    promised a.a.now a.m _ (summary-other a.a.now a.m (sym c.is_account.ensures ∙ c.if-not-is_account.true))
 
 pub returns-in_default : goal.returns-in_default
 returns-in_default c =
     let a = c.args in
-    promised a.a.now a.m _ (summary-none a.a.now a.m (sym c.if-not-is_account.ensures) c.in_default.ensures)
+    promised a.a.now a.m _ (summary-none a.a.now a.m (sym c.is_account.ensures ∙ c.if-not-is_account.false) c.in_default.ensures)
 
 pub charges_in-charges-requires : goal.charges_in-charges-requires
 charges_in-charges-requires c = month-small _ _ _ c.in-Some.ensures
@@ -30,18 +30,18 @@ returns-then-delivery-gt-MAX_CHARGE_SUM c =
     let a = c.args in
     let e = rw c.charges_in-charges.ensures at c.then-delivery-gt-MAX_CHARGE_SUM.either in
     let f : small a.a.now a.m ≡ false = grind (arith, nat_tests) in
-    promised a.a.now a.m _ (rw f at (summary-some a.a.now a.m (sym c.if-not-is_account.ensures) _ c.in-Some.ensures))
+    promised a.a.now a.m _ (rw f at (summary-some a.a.now a.m (sym c.is_account.ensures ∙ c.if-not-is_account.false) _ c.in-Some.ensures))
 
 pub paid_in-requires : goal.paid_in-requires
-paid_in-requires c = (in_reach _ _ (sym c.if-not-is_account.ensures)).count
+paid_in-requires c = (in_reach _ _ (sym c.is_account.ensures ∙ c.if-not-is_account.false)).count
 
 pub paid_in-requires-2 : goal.paid_in-requires-2
-paid_in-requires-2 c = (in_reach _ _ (sym c.if-not-is_account.ensures)).count
+paid_in-requires-2 c = (in_reach _ _ (sym c.is_account.ensures ∙ c.if-not-is_account.false)).count
 
 pub returns : goal.returns
 returns c =
     let a = c.args.a.now in
-    let i = sym c.if-not-is_account.ensures in
+    let i = sym c.is_account.ensures ∙ c.if-not-is_account.false in
     let m = c.used_in-metered.ensures.value in
     let u = c.used_in-estimated.ensures.value in
     let s = c.charges_in-charges.ensures in
