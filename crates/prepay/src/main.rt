@@ -5,6 +5,7 @@
 
 use std::io;
 use std::io::{Read, Write};
+use transcript::Progress;
 
 fn main(rt: HostRuntime) -> io::Result<()> {
     let mut text = Vec::new(rt.alloc());
@@ -13,10 +14,9 @@ fn main(rt: HostRuntime) -> io::Result<()> {
         .read_to_end(&mut text)?;
     let mut writer = io::writer(&rt);
     let mut out = [0u8; 8192];
-    let mut progress = transcript::begin(&text);
+    let mut progress = Progress::begin(&text);
     while !progress.done {
-        progress = transcript::piece(&text, progress, &mut out);
-        let length = progress.length;
+        let length = progress.piece(&text, &mut out);
         writer.write_all(&out[..length])?;
     }
     Ok(())

@@ -1,10 +1,8 @@
--- The events of a text, and the loop over them: what it keeps, and one turn.
--- Assumes nothing.
-use Prim.Native.Nat.{ℕ, ◌≤◌}
-use mathlib.Core.Path.{◌≡◌, refl, sym, ap, ◌∙◌}
+-- The events of a text, by what stands there. Assumes nothing.
+use Prim.Native.Nat.{ℕ}
+use mathlib.Core.Path.{◌≡◌, ap, ◌∙◌}
 use mathlib.Core.List.{List, [], ◌∷◌}
 use native.Mathlib.Omega.{arith}
-use lib.ListN.{length, drop}
 use Rattle.ledger.specs.declared.Event.{Event}
 use Rattle.account.specs.Step.{step_of}
 use Rattle.account.specs.declared.Account.{Account}
@@ -28,26 +26,12 @@ events-broken : (s : List ℕ) → read_event s ≡ broken → events_of s ≡ [
 events-broken [] g = count-suffices []
 events-broken (b ∷ s) g = count-suffices (b ∷ s) ∙ fold-broken event_list (fold_events event_list) tt (b ∷ s) (omega arith) g
 
--- ---- what the loop keeps
+-- ---- the loop over them
 
--- The events from place `at` on, posted to b, give the account that those from `start` on give of a.
-pub record Going (text : List ℕ) (start : ℕ) (a b : Account) (at : ℕ) : Type 0 where
-  pub inside : at ≤ length text
-  pub same : account_after b (events_of (drop at text)) ≡ account_after a (events_of (drop start text))
+pub posts : (s r : List ℕ) (e : Event) (a : Account) → read_event s ≡ got e r → account_after a (events_of s) ≡ account_after (step_of a e).account (events_of r)
+unfolding account_after
+posts s r e a g = ap (account_after a) (events-got s e r g)
 
-pub begins : (text : List ℕ) (start : ℕ) (a : Account) → start ≤ length text → Going text start a a start
-begins text start a h = record { inside = h; same = refl }
-
-module _ (text : List ℕ) (start : ℕ) (a b : Account) (at : ℕ) (g : Going text start a b at) where
-  pub turns : (e : Event) (next : ℕ) (c : Account) → read_event (drop at text) ≡ got e (drop next text) → next ≤ length text → c ≡ (step_of b e).account → Going text start a c next
-  unfolding account_after
-  turns e next c r within ec = record {
-    inside = within;
-    same = ap (λ (x : Account). account_after x (events_of (drop next text))) ec
-        ∙ sym (ap (account_after b) (events-got (drop at text) e (drop next text) r))
-        ∙ g.same;
-  }
-
-  pub stops : read_event (drop at text) ≡ broken → b ≡ account_after a (events_of (drop start text))
-  unfolding account_after
-  stops r = sym (ap (account_after b) (events-broken (drop at text) r)) ∙ g.same
+pub ends : (s : List ℕ) (a : Account) → read_event s ≡ broken → account_after a (events_of s) ≡ a
+unfolding account_after
+ends s a g = ap (account_after a) (events-broken s g)

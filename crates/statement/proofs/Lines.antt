@@ -1,35 +1,41 @@
 -- The months' lines one after the other, and the terms' line by its bytes.
 -- Assumes nothing.
 use mathlib.Core.Path.{◌≡◌, refl, sym}
-use mathlib.Core.List.{List, [], ◌∷◌, ◌++◌}
-use Prim.Native.Nat.{ℕ, zero, suc, ◌+◌}
+use mathlib.Core.Bool.{Bool, true, false, cond}
+use mathlib.Core.List.{List, ◌++◌, append_assoc}
+use Prim.Native.Nat.{ℕ, zero, suc, ◌+◌, ◌≤◌}
 use native.Mathlib.Numerals.{add-one}
 use native.Mathlib.Omega.{arith}
+use mir.Val.{bool_byte}
 use Rattle.ledger.specs.declared.Summary.{Summary}
-use Rattle.scanner.specs.Scanner.{bytes, feed}
-use Rattle.printing.specs.Printing.{digits, decimal, signed, Wrote}
+use lib.ListN.{length}
+use Rattle.printing.specs.Printing.{decimal}
+use Rattle.printing.specs.Printer.{Writes}
+use Rattle.printing.specs.declared.Printer.{Printer}
 use Rattle.printing.proofs.Laws.{over_none}
-use Rattle.printing.proofs.Placed.{wrote_then}
-use Rattle.transcript.specs.Transcript.{event_line, terms_line}
-use Rattle.statement.specs.Statement.{summary_line, month_lines}
+use Rattle.printing.proofs.Placed.{printed_then}
+use Rattle.statement.specs.Statement.{two_fields, summary_line, month_lines}
+
+-- ---- a line's fields, each after the one before
+
+pub then-fields : (one : List ℕ) (n : ℕ) (two : List ℕ) (k : ℕ) (rest : List ℕ) → two_fields one n two k ++ rest ≡ one ++ (decimal n ++ (two ++ (decimal k ++ rest)))
+then-fields one n two k rest = simp append_assoc
+
+pub flag : (b : Bool) → bool_byte b ≡ cond b 1 0
+flag true = refl
+flag false = refl
 
 -- ---- the months' lines
 
-pub none : (f : ℕ → Summary) (b : List ℕ) → Wrote b 0 (month_lines f 0) b 0
+pub none : (f : ℕ → Summary) (p : Printer) → p.at ≤ length p.out.now → Writes p (month_lines f 0) p
 unfolding month_lines
-none f b = record { buffer = sym (over_none b 0); next = refl; room = omega arith }
+none f p h = record { same = refl; wrote = record { buffer = sym (over_none p.out.now p.at); next = omega arith; room = omega arith } }
 
-pub one_more : (f : ℕ → Summary) (n : ℕ) (s : Summary) {b after last : List ℕ} {r q : ℕ} → Wrote b 0 (month_lines f n) after r → s ≡ f n → Wrote after r (summary_line n s) last q → Wrote b 0 (month_lines f (n + 1)) last q
+pub one_more : (f : ℕ → Summary) (n : ℕ) (s : Summary) {p q r : Printer} → Writes p (month_lines f n) q → s ≡ f n → Writes q (summary_line n s) r → Writes p (month_lines f (n + 1)) r
 unfolding month_lines
-one_more f n s w e v = rw (add-one n) (wrote_then w (rw e at v))
+one_more f n s w e v = rw (add-one n) (printed_then w (rw e at v))
 
 pub same_lines : (f g : ℕ → Summary) → ((m : ℕ) → f m ≡ g m) → (n : ℕ) → month_lines f n ≡ month_lines g n
 unfolding month_lines
 same_lines f g h zero = refl
 same_lines f g h (suc n) = rw (same_lines f g h n, h n)
-
--- ---- `prepay`'s line for the terms
-
-pub terms-line : (code : ℕ) → bytes "n=0 code=" ++ (decimal code ++ (bytes " value=0 balance=0 plan=0" ++ feed ∷ [])) ≡ terms_line code
-unfolding event_line decimal digits signed
-terms-line code = refl

@@ -5,44 +5,25 @@
 // The file stdout is worked out from document 01 by hand; none of its lines is copied from a run.
 #![tactic(auto)]
 
-ghost use Rattle.std.specs.Prelude.{◌≤◌, length};
-
-use printing::put_bytes;
+use printing::Printer;
 use std::io;
 use std::io::{BufWriter, Read, Write};
 use transcript::TRANSCRIPT_ROOM;
 
-// The first such byte, or the end.
-fn find(text: &[u8], byte: u8) -> usize
-    ensures { result ≤ length text.now }
-{
-    let mut i = 0;
-    while i < text.len() {
-        if text[i] == byte {
-            return i;
-        }
-        i += 1;
-    }
-    i
-}
-
 // A transcript; of a long one, its length and its last bytes.
-fn say(to: &mut impl Write, out: &[u8], length: usize) -> io::Result<()> {
-    if length > out.len() {
-        return Ok(());
-    }
+fn say(to: &mut impl Write, transcript: &[u8]) -> io::Result<()> {
+    let length = transcript.len();
     if length < 4096 {
-        return to.write_all(&out[..length]);
+        return to.write_all(transcript);
     }
     writeln!(to, "{length} bytes, the last of them")?;
-    let from = length - 67;
-    to.write_all(&out[from..length])
+    to.write_all(&transcript[length - 67..])
 }
 
 fn show(to: &mut impl Write, text: &[u8]) -> io::Result<()> {
     let mut out = [0u8; TRANSCRIPT_ROOM];
     let length = transcript::transcript(text, &mut out);
-    say(to, &out, length)
+    say(to, &out[..length])
 }
 
 fn short_buffer(to: &mut impl Write) -> io::Result<()> {
@@ -55,44 +36,35 @@ fn short_buffer(to: &mut impl Write) -> io::Result<()> {
 // The text of the lines and 4,675 times the piece.
 fn long(to: &mut impl Write, lines: &[u8], piece: &[u8]) -> io::Result<()> {
     let mut text = [0u8; text::MAX_TEXT + 1];
-    let mut at = put_bytes(&mut text, 0, lines);
-    let mut n: u32 = 0;
-    while n < 4675 {
-        at = put_bytes(&mut text, at, piece);
-        n += 1;
+    let mut page = Printer {
+        out: &mut text,
+        at: 0,
+    };
+    page.put_bytes(lines);
+    for _ in 0..4675 {
+        page.put_bytes(piece);
     }
-    if at > text.len() {
-        return Ok(());
-    }
-    show(to, &text[..at])
+    let length = page.at.min(text.len());
+    show(to, &text[..length])
 }
 
 // A name, or a text.
 fn one(to: &mut impl Write, part: &[u8]) -> io::Result<()> {
-    if part.len() > 0 {
-        if part[0] == b'#' {
-            return to.write_all(part);
-        }
+    if part.starts_with(b"#") {
+        return to.write_all(part);
     }
-    let star = find(part, b'*');
-    if star == part.len() {
-        return show(to, part);
+    match part.iter().position(|b| *b == b'*') {
+        Some(star) => long(to, &part[..star], &part[star + 1..]),
+        None => show(to, part),
     }
-    let after = star + 1;
-    long(to, &part[..star], &part[after..])
 }
 
+// The parts, each ended by a `%`.
 fn all(to: &mut impl Write, cases: &[u8]) -> io::Result<()> {
-    let mut start = 0;
-    let mut i = 0;
-    while i < cases.len() {
-        if cases[i] != b'%' {
-            i += 1;
-            continue;
+    for part in cases.split_inclusive(|b| *b == b'%') {
+        if let Some(part) = part.strip_suffix(b"%") {
+            one(to, part)?;
         }
-        one(to, &cases[start..i])?;
-        i += 1;
-        start = i;
     }
     Ok(())
 }

@@ -1,19 +1,18 @@
 -- The lines by the account's step and the reading calls are the ledger's, for an account that stands for the ledger. Assumes nothing.
-use Prim.Native.Nat.{ℕ, zero, suc, ◌+◌, ◌-◌, ◌≤◌, ◌<◌}
+use Prim.Native.Nat.{ℕ, zero, suc, ◌+◌, ◌-◌, ◌≤◌}
 use mathlib.Core.Path.{◌≡◌, refl, sym, ap, ap₂, ◌∙◌}
 use mathlib.Core.Bool.{Bool, true, false, cond}
 use mathlib.Core.List.{List, [], ◌∷◌, ◌++◌}
 use native.Mathlib.Omega.{arith}
 use lib.ListN.{length, drop, length-drop}
 use lib.Dec.{ltb}
-use borrow.Author.Tests.{lt-ltb, le-ltb, eqb-true, eqb-false}
 use Rattle.terms.specs.Terms.{valid_terms, terms_code, zero_terms}
 use Rattle.terms.specs.declared.Terms.{Terms}
 use Rattle.ledger.specs.Rules.{Ledger}
 use Rattle.ledger.specs.Ledger.{opening, ledger_step}
 use Rattle.ledger.proofs.Cases.{decide}
 use Rattle.account.specs.Record.{fresh}
-use Rattle.account.specs.Step.{Opened, step_of, open_of}
+use Rattle.account.specs.Step.{step_of, open_of}
 use Rattle.account.specs.declared.Account.{Account}
 use Rattle.refinement.specs.Agree.{Represents, Refinement}
 use Rattle.refinement.proofs.Lists.{refinement-holds}
@@ -21,7 +20,7 @@ use Rattle.readings.proofs.After.{balance-reading, settled-reading}
 use Rattle.scanner.specs.Scanner.{Read, got, broken}
 use Rattle.text.specs.Text.{read_terms, read_event}
 use Rattle.text.proofs.Laws.{terms-rest}
-use Rattle.transcript.specs.Events.{fold_in, fold_events}
+use Rattle.transcript.specs.Events.{fold_in}
 use Rattle.transcript.specs.Transcript.{ledger_line, ledger_last_line, ledger_lines, terms_line, by_terms, terms_in, all_lines, transcript}
 use Rattle.transcript.specs.Pieces.{lines_from, start_of, begun_of, Begun}
 use Rattle.transcript.specs.Progress.{Reached}
@@ -71,7 +70,7 @@ begun_by n broken = start_of zero_terms 0 15
 begun-as : (text : List ℕ) → begun_of text ≡ begun_by (length text) (terms_in text)
 begun-as text = by (ltb 65536 (length text)) (read_terms text)
   where
-    by : (b : Bool) (x : Read Terms) → cond b (start_of zero_terms 0 15) (elim x [ | got t r ↦ start_of t (length text - length r) (open_of t).code | broken ↦ start_of zero_terms 0 15 ]) ≡ begun_by (length text) (cond b broken x)
+    by : (b : Bool) (x : Read Terms) → cond b (start_of zero_terms 0 15) (elim x [ got t r ↦ start_of t (length text - length r) (open_of t).code | broken ↦ start_of zero_terms 0 15 ]) ≡ begun_by (length text) (cond b broken x)
     by true x = refl
     by false (got t r) = refl
     by false broken = refl

@@ -92,9 +92,12 @@ pub in-buffer : {s : List ℕ} {p q : Reached} {b : List ℕ} (out : List ℕ) {
 in-buffer {s} {p} {q} {b} out e m = subst (λ (l : List ℕ). Piece s p b l q) (sym e) m
 
 -- the line of terms that are malformed or refused
-pub refused : (s : List ℕ) (p : Reached) {b after : List ℕ} {r : ℕ} → p.done ≡ false → p.count ≤ p.at → (p.code ≡ 0 → ⊥) → 174 ≤ length b
-    → Wrote b 0 (account_line 0 p.code 0 no-totals) after r → Piece s p b after (with_length p r true)
+pub refusal-line : (code : ℕ) → account_line 0 code 0 no-totals ≡ terms_line code
 unfolding balance_of
+refusal-line code = refl
+
+pub refused : (s : List ℕ) (p : Reached) {b after : List ℕ} {r : ℕ} → p.done ≡ false → p.count ≤ p.at → (p.code ≡ 0 → ⊥) → 174 ≤ length b
+    → Wrote b 0 (terms_line p.code) after r → Piece s p b after (with_length p r true)
 refused s p {b} {after} {r} d h n roomy w =
     piece-of s p (with_length p r true)
     (simp (le-ltb (length b) 174 roomy, d, le-ltb p.at p.count h, ne_eqb p.code 0 n) (ap (λ (k : ℕ). with_length p k true) (w.next ∙ zero-add (length (terms_line p.code)))))

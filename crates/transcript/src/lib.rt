@@ -4,11 +4,11 @@
 #![tactic(auto)]
 
 ghost use Rattle.std.specs.Prelude.{◌≡◌, false, None, ◌+◌, ◌≤◌, length};
-ghost use Rattle.ledger.specs.Refusals.{code_of, value_of};
+ghost use Rattle.ledger.specs.Refusals.{refusal_code, code_of, value_of};
 ghost use Rattle.account.specs.Record.{fresh};
 ghost use Rattle.printing.specs.Printer.{Writes};
 ghost use Rattle.scanner.specs.Scanner.{IsRead};
-ghost use Rattle.transcript.specs.Transcript.{WholeTranscript, terms_in};
+ghost use Rattle.transcript.specs.Transcript.{WholeTranscript, terms_line, terms_in};
 ghost use Rattle.transcript.specs.Work.{account_line, account_last_line};
 ghost use Rattle.transcript.specs.Progress.{code_or_0, reached};
 ghost use Rattle.transcript.specs.Pieces.{event_room, last_room, piece_room, progress_of, Begun, Piece};
@@ -54,6 +54,14 @@ fn put_event(page: &mut Printer, n: u64, answer: Result<u64, Refusal>, s: Totals
     page.put_sum(b" balance=", readings::balance(s));
     page.put_field(b" plan=", readings::plan(s));
     page.put_bytes(b"\n");
+}
+
+// The one line of terms that break their form or their limits.
+pub fn put_refusal(page: &mut Printer, refusal: Refusal)
+    requires { page.old.at + event_room ≤ length page.old.out.now }
+    ensures { Writes page.old (terms_line (refusal_code refusal)) page.new }
+{
+    put_event(page, 0, Err(refusal), Totals::default());
 }
 
 // The last line, by the totals.
@@ -121,7 +129,12 @@ impl Progress {
                 return page.at;
             }
             let Some((event, rest)) = text::read_event(&text[self.at..]) else {
-                put_event(&mut page, self.count + 1, Err(Refusal::Form), self.account.totals);
+                put_event(
+                    &mut page,
+                    self.count + 1,
+                    Err(Refusal::Form),
+                    self.account.totals,
+                );
                 break;
             };
             let answer = self.account.post(event);
@@ -150,7 +163,7 @@ impl Progress {
         };
         self.done = true;
         let mut page = Printer { out, at: 0 };
-        put_event(&mut page, 0, Err(refusal), Totals::default());
+        put_refusal(&mut page, refusal);
         page.at
     }
 }

@@ -1,19 +1,22 @@
--- `statement::post_events` meets its contract. The loop's invariant: the events left give the same account.
--- Assumes nothing.
-use native.Mathlib.Omega.{arith}
-use Rattle.statement.proofs.Events.{begins, turns, stops}
+-- `statement::post_events` meets its contract. Assumes nothing.
+use Rattle.std.proofs.Common.{refl, sym, ap, ◌∙◌, arith}
+use Rattle.account.specs.Step.{Stepped}
+use Rattle.refinement.specs.Lists.{account_after}
+use Rattle.statement.specs.Statement.{events_of}
+use Rattle.statement.proofs.Events.{posts, ends}
 use Rattle.statement.proofs.post_events.Goals as goal
+
+pub loop-event-init : goal.loop-event-init
+loop-event-init c = refl
+
+pub loop-event-smaller : goal.loop-event-smaller
+loop-event-smaller c = omega (arith, c.in-Some.ensures.shorter)
 
 pub loop-event-preserved : goal.loop-event-preserved
 loop-event-preserved c =
-    let e = c.in-Got.ensures in
-    turns _ _ _ _ _ c.loop-event.invariant _ _ _ e.0 e.2 c.post_by_value-posted.ensures.account
+    ap (λ (p : Stepped). account_after p.account (events_of c.in-Some.after.now)) c.post.ensures
+    ∙ sym (posts _ _ _ c.loop-event.a c.in-Some.ensures.read)
+    ∙ c.loop-event.invariant
 
-pub returns-in-Broken : goal.returns-in-Broken
-returns-in-Broken c = stops _ _ _ _ _ c.loop-event.invariant c.in-Broken.ensures
-
-pub loop-event-init : goal.loop-event-init
-loop-event-init c = begins _ _ _ c.requires
-
-pub loop-event-smaller : goal.loop-event-smaller
-loop-event-smaller c = let e = c.in-Got.ensures in omega (arith, e.1, e.2)
+pub returns : goal.returns
+returns c = sym (ends _ c.loop-event.a c.in_default.ensures.read) ∙ c.loop-event.invariant

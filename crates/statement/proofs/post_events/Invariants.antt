@@ -1,12 +1,11 @@
--- `statement::post_events` meets its contract. The loop's invariant: the events left give the same account.
--- Assumes nothing.
-use Prim.Native.Nat.{◌-◌}
-use lib.ListN.{length}
-use Rattle.statement.proofs.Events.{Going}
+-- `statement::post_events` meets its contract: the events left give the same account. Assumes nothing.
+use Rattle.std.proofs.Common.{◌≡◌, length}
+use Rattle.refinement.specs.Lists.{account_after}
+use Rattle.statement.specs.Statement.{events_of}
 use Rattle.statement.proofs.post_events.Given as goal
 
 abbrev pub invariant-loop-event : goal.invariant-loop-event
-invariant-loop-event l = Going l.text l.start l.initial.b l.b l.at
+invariant-loop-event l = account_after l.a (events_of l.rest) ≡ account_after l.initial.a (events_of l.text)
 
 abbrev pub decreases-loop-event : goal.decreases-loop-event
-decreases-loop-event l = length l.text - l.at
+decreases-loop-event l = length l.rest

@@ -1,23 +1,29 @@
--- `statement::put_charges` meets its contract.
--- Assumes nothing.
-use native.Mathlib.Omega.{arith}
+-- `statement::put_charges` meets its contract. Assumes nothing.
+use Rattle.std.proofs.Common.{ℕ, get_or, ◌∙◌, rules}
 use Rattle.scanner.specs.Scanner.{bytes}
 use Rattle.printing.specs.Printing.{decimal}
 use Rattle.printing.proofs.Digits.{length-decimal}
+use Rattle.printing.proofs.Placed.{word-last, field-then}
 use Rattle.statement.specs.Statement.{charges_part}
-use Rattle.printing.proofs.Placed.{wrote_then, word-last, field-then}
+use Rattle.statement.proofs.Lines.{then-fields, flag}
 use Rattle.statement.proofs.put_charges.Goals as goal
 
 pub returns : goal.returns
 unfolding charges_part
 returns c =
-    let first = c.put_two-after_2.ensures in
-    let third = c.put_two-after_4.ensures in
-    let fifth = c.put_two-after_average.ensures in
-    let flag = c.flag.result in
-    let end = field-then (bytes " missing=") (decimal flag) 20 (length-decimal flag c.flag.type_inv) c.put_field-after_missing.ensures 1
-    (omega (arith, c.requires, first.upper_bound, c.put_two-after_2.auto.out, third.upper_bound, c.put_two-after_4.auto.out, fifth.upper_bound, c.put_two-after_average.auto.out))
-    (word-last c.put_bytes.ensures) in record {
-      wrote = wrote_then first.wrote (wrote_then third.wrote (wrote_then fifth.wrote (rw c.flag.ensures at end.0)));
-      upper_bound = omega (arith, first.upper_bound, third.upper_bound, fifth.upper_bound, end.1);
+    let s = c.args.s in
+    let kind : ℕ → ℕ = λ k. get_or s.charges k 0 in
+    let w =
+    field-then (bytes " kind1=") (decimal (kind 0)) 20 (length-decimal (kind 0) (search rules)) c.put_field.ensures 167
+    (field-then (bytes " kind2=") (decimal (kind 1)) 20 (length-decimal (kind 1) (search rules)) c.put_field-2.ensures 140
+    (field-then (bytes " kind3=") (decimal (kind 2)) 20 (length-decimal (kind 2) (search rules)) c.put_field-3.ensures 113
+    (field-then (bytes " kind4=") (decimal (kind 3)) 20 (length-decimal (kind 3) (search rules)) c.put_field-4.ensures 86
+    (field-then (bytes " kind5=") (decimal (kind 4)) 20 (length-decimal (kind 4) (search rules)) c.put_field-5.ensures 59
+    (field-then (bytes " average=") (decimal s.average) 20 (length-decimal s.average (search rules)) c.put_field-6.ensures 30
+    (field-then (bytes " missing=") (decimal c.from.result) 20 (length-decimal c.from.result (search rules)) c.put_field-7.ensures 1
+    (word-last c.put_bytes.ensures))))))) c.requires in
+    record {
+      printed = rw (then-fields (bytes " kind1=") (kind 0) (bytes " kind2=") (kind 1) _, then-fields (bytes " kind3=") (kind 2) (bytes " kind4=") (kind 3) _, then-fields (bytes " kind5=") (kind 4) (bytes " average=") s.average _)
+          (rw (c.from.ensures ∙ flag s.missing) at w.0);
+      upper_bound = w.1;
     }

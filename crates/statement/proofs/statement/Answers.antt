@@ -1,25 +1,26 @@
--- `statement::statement` meets its contract.
--- Assumes nothing.
-use Rattle.scanner.specs.Scanner.{broken}
+-- `statement::statement` meets its contract. Assumes nothing.
+use Rattle.std.proofs.Common.{ℕ, rules, sym, ap, ◌∙◌}
+use Rattle.account.specs.declared.Account.{Account}
+use Rattle.months.specs.Summary.{summary_of}
+use Rattle.printing.specs.Printer.{Writes}
 use Rattle.printing.proofs.Placed.{none-put, all-put}
-use Rattle.transcript.proofs.Terms.{too_long, by-terms}
-use Rattle.statement.specs.Statement.{all_months, summaries}
+use Rattle.statement.specs.Statement.{month_lines, summaries, all_months}
+use Rattle.statement.proofs.Whole.{months-printed, in-buffer}
+use Rattle.statement.proofs.statement.Goals.{in-Ok, in-Err}
 use Rattle.statement.proofs.statement.Goals as goal
-
-pub returns-then-text-gt-MAX_TEXT : goal.returns-then-text-gt-MAX_TEXT
-unfolding summaries
-returns-then-text-gt-MAX_TEXT c = all-put _ _ c.if-out-lt-STATEMENT_ROOM.false c.put_refusal.ensures (too_long all_months c.args.text.now c.if-text-gt-MAX_TEXT.true)
-
-pub returns-in-Got : goal.returns-in-Got
-unfolding summaries
-returns-in-Got c = all-put _ _ c.if-out-lt-STATEMENT_ROOM.false c.put_account.ensures (by-terms all_months _ _ c.if-text-gt-MAX_TEXT.false c.in-Got.ensures.0)
-
-pub returns-in-Broken : goal.returns-in-Broken
-unfolding summaries
-returns-in-Broken c = all-put _ _ c.if-out-lt-STATEMENT_ROOM.false c.put_refusal-in-Broken.ensures (by-terms all_months _ broken c.if-text-gt-MAX_TEXT.false c.in-Broken.ensures)
 
 pub returns-then-out-lt-STATEMENT_ROOM : goal.returns-then-out-lt-STATEMENT_ROOM
 returns-then-out-lt-STATEMENT_ROOM c = none-put _ _ _ c.if-out-lt-STATEMENT_ROOM.true
 
-pub put_account-requires : goal.put_account-requires
-put_account-requires c = (c.in-Got.ensures.1, c.if-out-lt-STATEMENT_ROOM.false)
+pub returns : goal.returns
+unfolding summaries
+returns c =
+    elim c.match-open.branch [
+      | in-Ok w ↦
+          let v : Writes _ _ c.match-open.page = rw (sym w.page-is) at w.put_months.ensures in
+          in-buffer c.match-open.page.out.now (search (rules, sym v.same)) (all-put _ _ c.if-out-lt-STATEMENT_ROOM.false v.wrote
+          (months-printed _ _ _ w.in-Ok.ensures ∙ ap (λ (a : Account). month_lines (λ (m : ℕ). summary_of a m) 15) (sym w.post_events.ensures)))
+      | in-Err w ↦
+          let v : Writes _ _ c.match-open.page = rw (sym w.page-is) at w.put_refusal.ensures in
+          in-buffer c.match-open.page.out.now (search (rules, sym v.same)) (all-put _ _ c.if-out-lt-STATEMENT_ROOM.false v.wrote (w.in-Err.ensures all_months))
+    ]

@@ -5,7 +5,7 @@ use Rattle.account.specs.Step.{stepped_of}
 use Rattle.printing.specs.Printer.{Writes}
 use Rattle.transcript.specs.Progress.{code_or_0}
 use Rattle.transcript.proofs.Whole.{in-buffer}
-use Rattle.transcript.proofs.Turn.{begins, sized, turns, pauses, stops, ends, room_left, from-place, next-event, left-as}
+use Rattle.transcript.proofs.Turn.{begins, turns, pauses, stops, ends, room_left, from-place, next-event, left-as}
 use Rattle.transcript.proofs.Progress.put_events.Goals.{else-loop-self-test, then-loop-self-test+else-page-lt-PIECE_ROOM+in_default}
 use Rattle.transcript.proofs.Progress.put_events.Goals as goal
 
@@ -52,17 +52,20 @@ pub loop-self-preserved : goal.loop-self-preserved
 loop-self-preserved c =
     let i = c.loop-self.invariant in
     let line = c.put_event-in-loop-self.ensures in
-    let e = rw (from-place c.args.text.now c.loop-self.self.at) at c.in-Some.ensures in
-    (line.printed.same ∙ i.0, i.1, i.2,
-    turns _ _ _ _ _ _ _ _ _ _ i.3 _ _ (stepped_of c.post-answer.new.self c.post-answer.result) _ _ c.loop-self-test.true
-    (next-event _ _ _ _ c.loop-self-test.true e.read) (omega (arith, e.shorter, length-drop c.loop-self.self.at c.args.text.now)) (omega arith)
-    c.if-page-lt-PIECE_ROOM.false c.post-answer.ensures line.printed.wrote line.upper_bound)
+    let e = rw (from-place c.args.text.now c.loop-self.self.at) at c.in-Some.ensures in (
+      line.printed.same ∙ i.0,
+      i.1,
+      i.2,
+      turns _ _ _ _ _ _ _ _ _ _ i.3 _ _ (stepped_of c.post-answer.new.self c.post-answer.result) _ _ c.loop-self-test.true
+          (next-event _ _ _ _ c.loop-self-test.true e.read) (omega (arith, e.shorter, length-drop c.loop-self.self.at c.args.text.now)) (omega arith)
+          c.if-page-lt-PIECE_ROOM.false c.post-answer.ensures line.printed.wrote line.upper_bound,
+    )
 
 pub put_last_line-requires : goal.put_last_line-requires
 put_last_line-requires c = elim c.loop-self-test.branch [
-      | else-loop-self-test w ↦ rw w.page-is c.loop-self.invariant.3.room
-      | then-loop-self-test+else-page-lt-PIECE_ROOM+in_default w ↦ rw w.page-is (room_left w.if-page-lt-PIECE_ROOM.false w.put_event.ensures.printed.wrote w.put_event.ensures.upper_bound)
-    ]
+  | else-loop-self-test w ↦ rw w.page-is c.loop-self.invariant.3.room
+  | then-loop-self-test+else-page-lt-PIECE_ROOM+in_default w ↦ rw w.page-is (room_left w.if-page-lt-PIECE_ROOM.false w.put_event.ensures.printed.wrote w.put_event.ensures.upper_bound)
+]
 
 pub returns : goal.returns
 returns c =
