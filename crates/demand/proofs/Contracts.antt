@@ -21,7 +21,7 @@ use Rattle.std.specs.Prelude.{Result, Ok}
 use Rattle.terms.specs.declared.Terms.{Terms}
 use Rattle.ledger.specs.declared.Event.{Event}
 use Rattle.ledger.specs.declared.Refusal.{Refusal}
-use Rattle.ledger.specs.Refusals.{code_of, answer_of}
+use Rattle.ledger.specs.Refusals.{code_of, answer_record}
 use Rattle.ledger.specs.Ledger.{opening}
 use Rattle.ledger.specs.Calls.{Call, single, row, Back, answered, written}
 use Rattle.moves.specs.declared.Totals.{Totals}
@@ -101,7 +101,7 @@ module _ {M : Type 1} {𝓤 : Ura M} (𝓛 : Logic 𝓤) (at_mem : Memory → SP
 
   -- ---- each is the step that the relation takes
 
-  post-promises : (κs : Lfts 1) (a : MutBor Account) (e : Event) (b : Account) (n : Result ℕ Refusal) → ent 𝓤 (PostSays κs a e b n) (fact 𝓤 (Posts a.now e b (answer_of n)))
+  post-promises : (κs : Lfts 1) (a : MutBor Account) (e : Event) (b : Account) (n : Result ℕ Refusal) → ent 𝓤 (PostSays κs a e b n) (fact 𝓤 (Posts a.now e b (answer_record n)))
   post-promises κs a e b n = id⊢ 𝓤 _
 
   row-promises : (κs : Lfts 3) (a : MutBor Account) (es : Bor (List Event)) (buffer : MutBor (List ℕ)) (b : Account) (bytes : List ℕ) (n : Result Unit Refusal)
@@ -137,7 +137,7 @@ module _ {M : Type 1} {𝓤 : Ura M} (𝓛 : Logic 𝓤) (at_mem : Memory → SP
   abbrev CallSays : Account → Call → Back → Account → SProp 𝓤
   CallSays a (single e) r b =
       ex 𝓤 (λ (κs : Lfts 1). ex 𝓤 (λ (x : MutBor Account). ex 𝓤 (λ (n : Result ℕ Refusal).
-      sep 𝓤 (fact 𝓤 ((x.now ≡ a) × (r ≡ answered (answer_of n)))) (PostSays κs x e b n))))
+      sep 𝓤 (fact 𝓤 ((x.now ≡ a) × (r ≡ answered (answer_record n)))) (PostSays κs x e b n))))
   CallSays a (row es buffer) r b =
       ex 𝓤 (λ (κs : Lfts 3). ex 𝓤 (λ (x : MutBor Account). ex 𝓤 (λ (y : Bor (List Event)). ex 𝓤 (λ (z : MutBor (List ℕ)). ex 𝓤 (λ (n : Result Unit Refusal). ex 𝓤 (λ (bytes : List ℕ).
       sep 𝓤 (fact 𝓤 ((x.now ≡ a) × (y.now ≡ es) × (z.now ≡ buffer) × (r ≡ written (code_of n) bytes))) (RowSays κs x y z b bytes n)))))))
@@ -167,8 +167,8 @@ module _ {M : Type 1} {𝓤 : Ura M} (𝓛 : Logic 𝓤) (at_mem : Memory → SP
   called : (a : Account) (c : Call) (r : Back) (b : Account) → ent 𝓤 (CallSays a c r b) (fact 𝓤 (Called a c r b))
   called a (single e) r b =
       ex_e 𝓤 _ (λ κs. ex_e 𝓤 _ (λ x. ex_e 𝓤 _ (λ n.
-      via 𝓤 _ (both ((x.now ≡ a) × (r ≡ answered (answer_of n))) (Posts x.now e b (answer_of n)) (id⊢ 𝓤 _) (post-promises κs x e b n))
-      (fact_mono 𝓤 _ (Called a (single e) r b) (λ q. (n, subst (λ (z : Account). Posts z e b (answer_of n)) q.0.0 q.1, q.0.1))))))
+      via 𝓤 _ (both ((x.now ≡ a) × (r ≡ answered (answer_record n))) (Posts x.now e b (answer_record n)) (id⊢ 𝓤 _) (post-promises κs x e b n))
+      (fact_mono 𝓤 _ (Called a (single e) r b) (λ q. (n, subst (λ (z : Account). Posts z e b (answer_record n)) q.0.0 q.1, q.0.1))))))
   called a (row es buffer) r b =
       ex_e 𝓤 _ (λ κs. ex_e 𝓤 _ (λ x. ex_e 𝓤 _ (λ y. ex_e 𝓤 _ (λ z. ex_e 𝓤 _ (λ n. ex_e 𝓤 _ (λ bytes.
       via 𝓤 _ (both ((x.now ≡ a) × (y.now ≡ es) × (z.now ≡ buffer) × (r ≡ written (code_of n) bytes)) (PostsRow x.now y.now z.now b bytes (code_of n)) (id⊢ 𝓤 _) (row-promises κs x y z b bytes n))

@@ -17,7 +17,7 @@ use Rattle.ledger.specs.declared.Event.{Event}
 use Rattle.ledger.specs.declared.Refusal.{Refusal}
 use Rattle.ledger.specs.declared.Refusal.TheVariants.{Buffer}
 use Rattle.ledger.specs.declared.Refusal.TheVariants as variant
-use Rattle.ledger.specs.Refusals.{refusal_code, code_of, answer_of}
+use Rattle.ledger.specs.Refusals.{refusal_code, code_of, answer_record}
 use Rattle.ledger.specs.Entries.{usage_day, estimate_cost_of}
 use Rattle.ledger.specs.Rules.{Ledger, Rule, refusals, first_of}
 use Rattle.ledger.specs.Sums.{settled, standing_cost}
@@ -145,7 +145,7 @@ numbered (r ∷ rs) (x ∷ xs) = eqb r.0 (refusal_code x) && (ltb 0 r.0 && numbe
 
 -- what the ledger answers to an event that the number k refuses, and accepts with the value v where that is 0, is a result's
 IsAnswer : ℕ → ℕ → Type 0
-IsAnswer k v = (n : Result ℕ Refusal) × (answer_of n ≡ cond (eqb k 0) (answer 0 v) (answer k 0))
+IsAnswer k v = (n : Result ℕ Refusal) × (answer_record n ≡ cond (eqb k 0) (answer 0 v) (answer k 0))
 
 first-numbered : (v : ℕ) (rs : List Rule) (xs : List Refusal) → numbered rs xs ≡ true → IsAnswer (first_of rs) v
 unfolding first_of numbered IsAnswer
@@ -159,7 +159,7 @@ first-numbered v (r ∷ rs) (x ∷ xs) q =
     (λ f. simp f (first-numbered v rs xs c.1))
 
 -- the ledger's answer to an event is a result's
-result-of : (t : Terms) (l : Ledger) (e : Event) → (n : Result ℕ Refusal) × (answer_of n ≡ (ledger_step t l e).answer)
+result-of : (t : Terms) (l : Ledger) (e : Event) → (n : Result ℕ Refusal) × (answer_record n ≡ (ledger_step t l e).answer)
 unfolding ledger_step refusal refusals IsAnswer numbered
 result-of t l e =
     let n : IsAnswer (refusal t l e) (effect_of t l e).value = first-numbered _ _ (variant.Day ∷ variant.Limits ∷ variant.Full ∷ variant.Payments ∷ variant.Payment ∷ variant.UsageDay ∷ variant.UsageState ∷ variant.PlanCondition ∷ variant.PlanUnpaid ∷ variant.Service ∷ variant.Balance ∷ variant.Warning ∷ variant.Barred ∷ []) refl in
@@ -174,7 +174,7 @@ row-result a es buffer = decide (ltb (length buffer) (length es)) (λ y. (Err Bu
 some-back : (t : Terms) (a : Account) (l : Ledger) → Represents t a l → (c : Call) → (r : Back) × (b : Account) × Called a c r b
 some-back t a l s (single e) =
     let n = result-of t l e in
-    (answered (answer_of n.0), (step_of a e).account, (n.0, posts a e _ _ refl (n.1 ∙ sym (answer_is t a l s e)), refl))
+    (answered (answer_record n.0), (step_of a e).account, (n.0, posts a e _ _ refl (n.1 ∙ sym (answer_is t a l s e)), refl))
 some-back t a l s (row es buffer) =
     let w = row_of a es buffer in
     let n = row-result a es buffer in

@@ -2,7 +2,7 @@
 use Rattle.std.specs.Prelude.{ℕ, ◌≡◌, Bool, List, [], ◌∷◌, ℤ, Result, Ok}
 use Rattle.terms.specs.declared.Terms.{Terms}
 use Rattle.ledger.specs.declared.Refusal.{Refusal}
-use Rattle.ledger.specs.Refusals.{code_of, answer_of}
+use Rattle.ledger.specs.Refusals.{code_of, answer_record}
 use Rattle.ledger.specs.Calls.{Call, single, row, Back, answered, written}
 use Rattle.moves.specs.declared.Totals.{Totals}
 use Rattle.account.specs.Step.{IsOpened}
@@ -33,7 +33,7 @@ pub record ShowsReadings (s : Totals) (r : Readings) : Type 0 where
 
 -- by the promises of `post` and `post_row`, of a result n: the call that gets account a may leave account b and hand back r
 abbrev pub Called : Account → Call → Back → Account → Type 0
-Called a (single e) r b = (n : Result ℕ Refusal) × Posts a e b (answer_of n) × (r ≡ answered (answer_of n))
+Called a (single e) r b = (n : Result ℕ Refusal) × Posts a e b (answer_record n) × (r ≡ answered (answer_record n))
 Called a (row es buffer) r b = (n : Result Unit Refusal) × (bytes : List ℕ) × PostsRow a es buffer b bytes (code_of n) × (r ≡ written (code_of n) bytes)
 
 -- "each posting call gets the account as the call before left it"

@@ -4,7 +4,7 @@
 #![tactic(auto)]
 
 ghost use Rattle.std.specs.Prelude.{◌≡◌, cond};
-ghost use Rattle.ledger.specs.Refusals.{answer_of, summary_of};
+ghost use Rattle.ledger.specs.Refusals.{answer_record, summary_record};
 ghost use Rattle.image.specs.Image.{is_day_image, day_image, day_of, is_payment_image, payment_image, payment_of};
 ghost use Rattle.image.specs.Image.{totals_image, totals_of, is_image, account_of, image_of, image_after};
 ghost use Rattle.image.specs.Image.{opening_of, opened_of, posting_of, posted_of, readings_of, summary_in, Inverse, CallsAgree};
@@ -319,7 +319,7 @@ pub fn readings(i: &Image) -> Reading
 
 // Month m's figures; refused by 1 where the numbers are no image.
 pub fn summary(i: Image, m: u32) -> Result<Figures, Refusal>
-    ensures { summary_of result ≡ summary_in i m }
+    ensures { summary_record result ≡ summary_in i m }
 {
     months::summary(&Account::from(i), m)
 }

@@ -40,21 +40,21 @@ abbrev pub value_of : Result ℕ Refusal → ℕ
 value_of (Ok v) = v
 value_of (Err r) = 0
 
-abbrev pub answer_of : Result ℕ Refusal → Answer
-answer_of r = record { code = code_of r; value = value_of r }
+abbrev pub answer_record : Result ℕ Refusal → Answer
+answer_record r = record { code = code_of r; value = value_of r }
 
 -- "marked missing and 0 where Wh is 0"
 abbrev pub average_or_0 : Option ℕ → ℕ
 average_or_0 (Some n) = n
 average_or_0 None = 0
 
-abbrev pub is_missing : Option ℕ → Bool
-is_missing (Some n) = false
-is_missing None = true
+abbrev pub is_average_missing : Option ℕ → Bool
+is_average_missing (Some n) = false
+is_average_missing None = true
 
 -- a month's figures as the record of the C interface has them: "refused with 3, every figure 0"
-abbrev pub summary_of : Result Figures Refusal → Summary
-summary_of (Ok f) = record {
+abbrev pub summary_record : Result Figures Refusal → Summary
+summary_record (Ok f) = record {
   code = 0;
   kept = f.kept;
   reversed = f.reversed;
@@ -62,6 +62,6 @@ summary_of (Ok f) = record {
   estimated = f.estimated;
   charges = f.charges;
   average = average_or_0 f.average;
-  missing = is_missing f.average;
+  missing = is_average_missing f.average;
 }
-summary_of (Err r) = no_summary (refusal_code r)
+summary_record (Err r) = no_summary (refusal_code r)

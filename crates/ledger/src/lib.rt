@@ -4,7 +4,7 @@
 
 ghost use Rattle.std.specs.Prelude.{◌≡◌, map};
 ghost use Rattle.ledger.specs.Figures.{Figure, shown, figures};
-ghost use Rattle.ledger.specs.Refusals.{refusal_code, answer_of, summary_of};
+ghost use Rattle.ledger.specs.Refusals.{refusal_code, code_of, answer_record, summary_record};
 
 // Why terms, an event, a text or a row is refused, in the order of the table "What comes back on a refusal" (specs/Refusals.antt).
 #[derive(Clone, Copy, Debug, PartialEq, Eq)]
@@ -33,6 +33,16 @@ impl Refusal {
         ensures { result ≡ refusal_code self }
     {
         self as u8
+    }
+}
+
+// The code of an answer: 0 where it is no refusal.
+pub fn code<T: Drop>(answer: Result<T, Refusal>) -> u8
+    ensures { result ≡ code_of answer }
+{
+    match answer {
+        Ok(_) => 0,
+        Err(refusal) => refusal.code(),
     }
 }
 
@@ -75,15 +85,12 @@ pub struct Answer {
 }
 
 impl From<Result<u64, Refusal>> for Answer {
-    ghost from_gives = { λ r a. a ≡ answer_of r };
+    ghost from_gives = { λ r a. a ≡ answer_record r };
 
     fn from(answer: Result<u64, Refusal>) -> Answer {
-        match answer {
-            Ok(value) => Answer { code: 0, value },
-            Err(refusal) => Answer {
-                code: refusal.code(),
-                value: 0,
-            },
+        Answer {
+            code: code(answer),
+            value: answer.unwrap_or(0),
         }
     }
 }
@@ -136,7 +143,7 @@ pub struct Summary {
 }
 
 impl From<Result<Figures, Refusal>> for Summary {
-    ghost from_gives = { λ r s. s ≡ summary_of r };
+    ghost from_gives = { λ r s. s ≡ summary_record r };
 
     fn from(month: Result<Figures, Refusal>) -> Summary {
         match month {

@@ -6,7 +6,7 @@ ghost use Rattle.std.specs.Prelude.{◌≡◌, ◌+◌, ◌*◌, ◌≤◌, ◌<
 ghost use Rattle.calendar.specs.Calendar.{day_count, month_count};
 ghost use Rattle.ledger.specs.Rules.{max_payments};
 ghost use Rattle.ledger.specs.Months.{average_of};
-ghost use Rattle.ledger.specs.Refusals.{average_or_0, is_missing, summary_of};
+ghost use Rattle.ledger.specs.Refusals.{average_or_0, is_average_missing, summary_record};
 ghost use Rattle.months.specs.Summary.{counted_by, charges_of, IsSummary};
 ghost use Rattle.months.specs.Work.{max_field, span, is_kept_as, used_on, used_by, max_averaged};
 
@@ -81,7 +81,7 @@ fn charges_in(charges: &Charges, m: u32) -> KindSums
 fn average(cost: u64, wh: u64) -> Option<u64>
     requires { (cost ≤ max_averaged) × (wh ≤ max_averaged) }
     ensures value { average_or_0 result ≡ average_of cost wh }
-    ensures missing { is_missing result ≡ eqb wh 0 }
+    ensures missing { is_average_missing result ≡ eqb wh 0 }
 {
     (cost * 100000 + wh / 2).checked_div(wh)
 }
@@ -89,7 +89,7 @@ fn average(cost: u64, wh: u64) -> Option<u64>
 // Month m's figures, counted from the opening month. The record is refused by 1 where it is no account, then by 3 where none of the account's
 // days lies in the month, then by 1 where a sum of charges in the average is past any account's.
 pub fn summary(a: &Account, m: u32) -> Result<Figures, Refusal>
-    ensures { IsSummary a.now m (summary_of result) }
+    ensures { IsSummary a.now m (summary_record result) }
 {
     if !moves::is_account(a.terms, a.totals) {
         return Err(Refusal::Terms);

@@ -2,7 +2,7 @@
 // It uses the account's step and the ledger's event. Its promises cite specs/Posting.antt: by the step, and in the ledger's terms.
 #![tactic(auto)]
 
-ghost use Rattle.ledger.specs.Refusals.{code_of, answer_of};
+ghost use Rattle.ledger.specs.Refusals.{code_of, answer_record};
 ghost use Rattle.posting.specs.Posting.{Posts, PostsRow};
 
 use account::{Account, Posted, step};
@@ -10,7 +10,7 @@ use ledger::{Answer, Event, Refusal};
 
 // One event. The thin form over the step by value, which the project names, copies, calls and stores; `Account::post` is the same in place.
 pub fn post(a: &mut Account, e: Event) -> Result<u64, Refusal>
-    ensures { Posts a.old e a.new (answer_of result) }
+    ensures { Posts a.old e a.new (answer_record result) }
 {
     let before = *a;
     let posted = step(before, e);
@@ -20,7 +20,7 @@ pub fn post(a: &mut Account, e: Event) -> Result<u64, Refusal>
 
 // One event, by value: the account is lent to `post`, and handed back with the answer.
 pub fn post_by_value(a: Account, e: Event) -> Posted<Account>
-    ensures { Posts a e result.account (answer_of result.answer) }
+    ensures { Posts a e result.account (answer_record result.answer) }
 {
     let mut b = a;
     let answer = post(&mut b, e);
