@@ -27,13 +27,10 @@ pub fn read_value<'a>(text: &'a [u8], key: &[u8]) -> Option<(&'a [u8], &'a [u8])
 fn digit(byte: u8) -> Option<u32>
     ensures { result ≡ digit_of byte }
 {
-    match byte {
-        b'0'..=b'9' => Some(u32::from(byte - b'0')),
-        _ => None,
-    }
+    char::from(byte).to_digit(10)
 }
 
-// The number that some digits make, none where it is above 4,294,967,295.
+// The number that some digits make, none where it is above 4,294,967,295. (std's `parse` takes a plus sign too.)
 #[tactic(auto, using(crate::proofs::Numbers::digit_steps))]
 fn decimal(digits: &[u8]) -> Option<u32>
     ensures { result ≡ decimal digits.now }
@@ -89,6 +86,7 @@ fn date_of(value: &[u8]) -> Option<Date>
     Some(Date { year, month, day })
 }
 
+// Two lines as in `read_number`: one function over the conversion would be no shorter, and its contract would speak of a closure's.
 #[tactic(auto, unfolding(crate::specs::Scanner::read_date, crate::specs::Values::date_of))]
 pub fn read_date<'a>(text: &'a [u8], key: &[u8]) -> Option<(Date, &'a [u8])>
     ensures { IsRead (read_date key.now text.now) result }
