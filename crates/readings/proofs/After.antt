@@ -43,17 +43,17 @@ module _ (t : Terms) (a : Account) (l : Ledger) (q : Represents t a l) where
 promised : {A : Type 0} (x : Totals → A) (f : Terms → Ledger → A) → ((t : Terms) (a : Account) (l : Ledger) → Represents t a l → x a.totals ≡ f t l) → (s : Totals) (r : A) → r ≡ x s → IsReading s (x s) f r
 promised x f g s r e = record { totals = e; ledgers = λ a h t es m. e ∙ ap x (sym h) ∙ g t a (ledger_of t es) (made-represents t es a m) }
 
-pub is_balance : (s : Totals) (r : ℤ) → r ≡ balance_of s → IsBalance s r
-is_balance = promised balance_of _ balance-reading
+pub is-balance : (s : Totals) (r : ℤ) → r ≡ balance_of s → IsBalance s r
+is-balance = promised balance_of _ balance-reading
 
-pub is_plan : (s : Totals) → IsPlan s s.plan
-is_plan s = promised (λ (z : Totals). z.plan) _ (λ t a l q. q.agree.sums.plan) s s.plan refl
+pub is-plan : (s : Totals) → IsPlan s s.plan
+is-plan s = promised (λ (z : Totals). z.plan) _ (λ t a l q. q.agree.sums.plan) s s.plan refl
 
-pub is_service : (s : Totals) → IsService s s.on
-is_service s = promised (λ (z : Totals). z.on) _ (λ t a l q. q.agree.sums.on) s s.on refl
+pub is-service : (s : Totals) → IsService s s.on
+is-service s = promised (λ (z : Totals). z.on) _ (λ t a l q. q.agree.sums.on) s s.on refl
 
-pub is_settled : (s : Totals) (r : ℤ) → r ≡ settled_of s → IsSettled s r
-is_settled = promised settled_of _ settled-reading
+pub is-settled : (s : Totals) (r : ℤ) → r ≡ settled_of s → IsSettled s r
+is-settled = promised settled_of _ settled-reading
 
-pub is_estimates : (s : Totals) → IsEstimates s s.standing
-is_estimates s = promised (λ (z : Totals). z.standing) _ (λ t a l q. q.agree.sums.standing) s s.standing refl
+pub is-estimates : (s : Totals) → IsEstimates s s.standing
+is-estimates s = promised (λ (z : Totals). z.standing) _ (λ t a l q. q.agree.sums.standing) s s.standing refl

@@ -1,5 +1,5 @@
-use Rattle.readings.proofs.After.{is_estimates}
+use Rattle.readings.proofs.After.{is-estimates}
 use Rattle.readings.proofs.estimates.Goals as goal
 
 pub returns : goal.returns
-returns c = is_estimates c.args.s
+returns c = is-estimates c.args.s

@@ -1,5 +1,5 @@
-use Rattle.readings.proofs.After.{is_plan}
+use Rattle.readings.proofs.After.{is-plan}
 use Rattle.readings.proofs.plan.Goals as goal
 
 pub returns : goal.returns
-returns c = is_plan c.args.s
+returns c = is-plan c.args.s

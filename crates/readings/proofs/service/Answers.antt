@@ -1,5 +1,5 @@
-use Rattle.readings.proofs.After.{is_service}
+use Rattle.readings.proofs.After.{is-service}
 use Rattle.readings.proofs.service.Goals as goal
 
 pub returns : goal.returns
-returns c = is_service c.args.s
+returns c = is-service c.args.s
