@@ -6,7 +6,7 @@ ghost use Rattle.ledger.specs.Refusals.{code_of, answer_record};
 ghost use Rattle.posting.specs.Posting.{Posts, PostsRow};
 
 use account::{Account, Posted, step};
-use ledger::{Answer, Event, Refusal};
+use ledger::{Event, Refusal, code};
 
 // One event. The thin form over the step by value, which the project names, copies, calls and stores; `Account::post` is the same in place.
 pub fn post(a: &mut Account, e: Event) -> Result<u64, Refusal>
@@ -38,7 +38,7 @@ pub fn post_row(a: &mut Account, row: &[Event], codes: &mut [u8]) -> Result<(), 
     for (i, event) in row.iter().enumerate() {
         let p = step(*a, *event);
         *a = p.account;
-        codes[i] = Answer::from(p.answer).code;
+        codes[i] = code(p.answer);
     }
     Ok(())
 }

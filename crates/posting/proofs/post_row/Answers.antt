@@ -1,6 +1,5 @@
 -- A row's events, one after another: a turn of the loop is `goes_on`, its end is `ends`; a buffer that is too short is `short`.
 use Rattle.std.proofs.Common.{rules, ap, ◌∙◌}
-use Rattle.ledger.specs.declared.Answer.{Answer}
 use Rattle.account.specs.Step.{Stepped}
 use Rattle.posting.proofs.RowTurn.{goes_on, ends, short}
 use Rattle.posting.proofs.post_row.Goals as goal
@@ -12,7 +11,7 @@ pub loop-i-preserved : goal.loop-i-preserved
 loop-i-preserved c =
     goes_on _ _ _ c.loop-i.i c.loop-i.a c.loop-i.codes _ _ _ c.loop-i-test.true c.if-codes-row.false c.loop-i.invariant
     (ap (λ (s : Stepped). s.account) c.step-p.ensures)
-    (ap (λ (r : Answer). r.code) c.from.ensures ∙ ap (λ (s : Stepped). s.code) c.step-p.ensures)
+    (c.code.ensures ∙ ap (λ (s : Stepped). s.code) c.step-p.ensures)
 
 pub returns : goal.returns
 returns c = ends _ _ _ _ _ _ (search rules) c.loop-i-test.false c.loop-i.invariant
