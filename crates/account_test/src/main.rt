@@ -8,7 +8,7 @@ ghost use Rattle.posting.specs.Posting.{PostsRow};
 
 use account::Account;
 use calendar::Date;
-use ledger::{Event, Refusal};
+use ledger::{Event, Refusal, code};
 use moves::Totals;
 use std::io;
 use std::io::Read;
@@ -114,13 +114,6 @@ fn way_of(line: &str) -> Way {
 }
 
 // ---- answers
-
-fn code<A: Copy>(answer: Result<A, Refusal>) -> u8 {
-    match answer {
-        Ok(_) => 0,
-        Err(refusal) => refusal.code(),
-    }
-}
 
 fn say_sums(rt: &impl Print, s: Totals) -> io::Result<()> {
     print!(rt; " {} {}", readings::balance(s), readings::plan(s))
