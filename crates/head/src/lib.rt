@@ -4,7 +4,6 @@
 #![tactic(auto)]
 
 ghost use Rattle.std.specs.Prelude.{◌≡◌};
-ghost use Rattle.ledger.specs.Refusals.{code_of};
 ghost use Rattle.posting.specs.Posting.{row_of};
 ghost use Rattle.transcript.specs.Transcript.{WholeTranscript};
 ghost use Rattle.statement.specs.Statement.{WholeStatement};
@@ -13,18 +12,8 @@ ghost use Rattle.head.specs.Interface.{OpensImage, PostsImage, PostsRowImage};
 
 use account::Account;
 use image::{Image, Reading};
-use ledger::{Answer, Event, Refusal, Summary};
+use ledger::{Answer, Event, Summary, code};
 use terms::Terms;
-
-// The code of an answer: 0 where it is no refusal.
-fn code<T: Drop>(answer: Result<T, Refusal>) -> u8
-    ensures { result ≡ code_of answer }
-{
-    match answer {
-        Ok(_) => 0,
-        Err(refusal) => refusal.code(),
-    }
-}
 
 // The transcript of a text.
 #[unsafe(no_mangle)]
