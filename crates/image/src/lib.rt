@@ -3,8 +3,8 @@
 // specs/Image.antt.
 #![tactic(auto)]
 
-ghost use Rattle.std.specs.Prelude.{◌≡◌, cond};
-ghost use Rattle.ledger.specs.Refusals.{answer_record, summary_record};
+ghost use Rattle.std.specs.Prelude.{◌≡◌};
+ghost use Rattle.ledger.specs.Refusals.{summary_record};
 ghost use Rattle.image.specs.Image.{is_day_image, day_image, day_of, is_payment_image, payment_image, payment_of};
 ghost use Rattle.image.specs.Image.{totals_image, totals_of, is_image, account_of, image_of, image_after};
 ghost use Rattle.image.specs.Image.{opening_of, opened_of, posting_of, posted_of, readings_of, summary_in, Inverse, CallsAgree};
