@@ -10,9 +10,12 @@ use std::io;
 use std::io::{BufWriter, Read, Write};
 use transcript::TRANSCRIPT_ROOM;
 
-// A transcript; of a long one, its length and its last bytes.
-fn say(to: &mut impl Write, transcript: &[u8]) -> io::Result<()> {
-    let length = transcript.len();
+// A transcript, the first bytes of a buffer; of a long one, its length and its last bytes. The buffer's array is cut here, by its length as a slice:
+// where it is made, a proof would count its bytes.
+fn say(to: &mut impl Write, out: &[u8], length: usize) -> io::Result<()> {
+    let Some(transcript) = out.get(..length) else {
+        return Ok(());
+    };
     if length < 4096 {
         return to.write_all(transcript);
     }
@@ -23,7 +26,7 @@ fn say(to: &mut impl Write, transcript: &[u8]) -> io::Result<()> {
 fn show(to: &mut impl Write, text: &[u8]) -> io::Result<()> {
     let mut out = [0u8; TRANSCRIPT_ROOM];
     let length = transcript::transcript(text, &mut out);
-    say(to, &out[..length])
+    say(to, &out, length)
 }
 
 fn short_buffer(to: &mut impl Write) -> io::Result<()> {
@@ -33,19 +36,23 @@ fn short_buffer(to: &mut impl Write) -> io::Result<()> {
     writeln!(to, "{length} bytes")
 }
 
-// The text of the lines and 4,675 times the piece.
-fn long(to: &mut impl Write, lines: &[u8], piece: &[u8]) -> io::Result<()> {
-    let mut text = [0u8; text::MAX_TEXT + 1];
-    let mut page = Printer {
-        out: &mut text,
-        at: 0,
-    };
+// The lines and 4,675 times the piece, and how many bytes they have.
+fn repeated(text: &mut [u8], lines: &[u8], piece: &[u8]) -> usize {
+    let mut page = Printer { out: text, at: 0 };
     page.put_bytes(lines);
     for _ in 0..4675 {
         page.put_bytes(piece);
     }
-    let length = page.at.min(text.len());
-    show(to, &text[..length])
+    page.at
+}
+
+fn long(to: &mut impl Write, lines: &[u8], piece: &[u8]) -> io::Result<()> {
+    let mut text = [0u8; text::MAX_TEXT + 1];
+    let length = repeated(&mut text, lines, piece);
+    match text.get(..length) {
+        Some(text) => show(to, text),
+        None => Ok(()),
+    }
 }
 
 // A name, or a text.
