@@ -36,11 +36,6 @@ decimal-high n h = count-suffices n ∙ simp (le-ltb n 10 h)
 pub length_high : (n : ℕ) → 10 ≤ n → length (decimal n) ≡ length (decimal (n / 10)) + 1
 length_high n h = ap length (decimal-high n h) ∙ length-append (decimal (n / 10)) ((48 + n % 10) ∷ [])
 
-pub some-digit : (n : ℕ) → 1 ≤ length (decimal n)
-some-digit n = decide (ltb n 10)
-    (λ t. rw (decimal-low n (ltb-true n 10 t)) (omega arith))
-    (λ f. omega (arith, length_high n (ltb-false n 10 f)))
-
 -- a number below a power of ten
 pub short : (k n : ℕ) → n < 10 ^ suc k → length (decimal n) ≤ suc k
 short zero n h = rw (decimal-low n h) (omega arith)

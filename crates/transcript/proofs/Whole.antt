@@ -27,10 +27,6 @@ events-left s p d c h = simp (d, c, le-leb p.count p.at h)
 pub refusal-left : (s : List ℕ) (p : Reached) → p.done ≡ false → p.count ≤ p.at → (p.code ≡ 0 → ⊥) → remaining s p ≡ terms_line p.code
 refusal-left s p d h n = simp (d, le-leb p.count p.at h, ne_eqb p.code 0 n)
 
--- more events than bytes
-none_left : (s : List ℕ) (p : Reached) → p.done ≡ false → p.at < p.count → remaining s p ≡ []
-none_left s p d h = simp (d, lt-leb p.count p.at h)
-
 -- ---- one piece
 
 -- bytes written from the start of a buffer on stand there, and those past them are as they were
@@ -65,27 +61,6 @@ piece-of s p q {b} {x} {after} is w e m = record {
   inside = omega (arith, w.room, w.next);
   more = λ h. m;
 }
-
--- no piece: the buffer is too short, the last piece was printed, or there are more events than bytes
-no-piece : (s b : List ℕ) (p : Reached) (done : Bool) → with_length p 0 done ≡ piece_of s p (length b) → remaining s p ≡ remaining s (with_length p 0 done) → (174 ≤ length b → done ≡ true) → Piece s p b b (with_length p 0 done)
-no-piece s b p done is e d = record {
-  progress = is;
-  lines = e;
-  others = refl;
-  inside = omega arith;
-  more = λ h f. absurd (true≢false (sym (d h) ∙ f));
-}
-
-module _ (s b : List ℕ) (p : Reached) where
-  pub too_short : length b < 174 → Piece s p b b (with_length p 0 p.done)
-  too_short h = no-piece s b p p.done (simp (lt-ltb (length b) 174 h)) refl (λ g. absurd (omega arith))
-
-  module _ (roomy : 174 ≤ length b) where
-    pub ended : p.done ≡ true → Piece s p b b (with_length p 0 p.done)
-    ended d = no-piece s b p p.done (simp (le-ltb (length b) 174 roomy, d)) refl (λ g. d)
-
-    pub too_many : p.done ≡ false → p.at < p.count → Piece s p b b (with_length p 0 true)
-    too_many d h = no-piece s b p true (simp (le-ltb (length b) 174 roomy, d, lt-ltb p.at p.count h)) (none_left s p d h) (λ g. refl)
 
 -- the buffer that is left is the printer's
 pub in-buffer : {s : List ℕ} {p q : Reached} {b : List ℕ} (out : List ℕ) {last : List ℕ} → last ≡ out → Piece s p b out q → Piece s p b last q
@@ -144,8 +119,3 @@ module _ (s before after : List ℕ) (p q : Reached) (begins : Begun s p) (m : P
 -- the bytes that are still to be read, and one more; none after the last piece
 abbrev pub unread : List ℕ → Reached → ℕ
 unread s p = cond p.done 0 (suc (length s - p.at))
-
-pub reads_on : (s before after : List ℕ) (p q : Reached) → 174 ≤ length before → Piece s p before after q → p.done ≡ false → unread s q < unread s p
-reads_on s before after p q h m d = decide q.done
-    (λ t. simp (d, t) (omega arith))
-    (λ f. let g = m.more h f in simp (d, f) (omega (arith, g.1, g.2)))
