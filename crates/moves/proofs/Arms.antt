@@ -53,48 +53,56 @@ module _ (t : Terms) (m : Moved) (charges marks warned : List ℕ) (e : Event) w
         (λ f₆. or 7 h.warns (λ f₇. or 8 h.marked (λ f₈. or 9 h.plans (λ f₉. or 10 h.disconnects (λ f. or 11 h.connects
         (λ q. h.other (simp (f₁, f₂, f₃, f₄, f₅, f₆, f₇, f₈, f₉, f, q)))))))))))))
 
--- The places that a move names are there.
-pub record Placed (m : Moved) : Type 0 where
-  pub number : m.number < 128
-  pub place : m.place < 75
+-- What holds of every sort's move of the cells m: the places that it names are there, and a refusal leaves every cell as it was.
+pub record Sound (m x : Moved) : Type 0 where
+  pub number : x.number < 128
+  pub place : x.place < 75
+  pub refused : (x.code ≡ 0 → ⊥) → x ≡ refusing m x.code
+
+-- the places of the cells before
+abbrev pub Placed : Moved → Type 0
+Placed m = (m.number < 128) × (m.place < 75)
 
 module _ (t : Terms) (m : Moved) (charges marks warned : List ℕ) (e : Event) (h : Placed m) where
-  test : (b : Bool) {x y : Moved} → Placed x → Placed y → Placed (cond b x y)
-  test b f g = branch Placed b (λ _. f) (λ _. g)
+  test : (b : Bool) {x y : Moved} → Sound m x → Sound m y → Sound m (cond b x y)
+  test b f g = branch (Sound m) b (λ _. f) (λ _. g)
 
-  by-usage : (u : Usage) {x y : Moved} {f : ℕ → Moved} → Placed x → ((old : ℕ) → Placed (f old)) → Placed y → Placed (by_usage u x f y)
+  by-usage : (u : Usage) {x y : Moved} {f : ℕ → Moved} → Sound m x → ((old : ℕ) → Sound m (f old)) → Sound m y → Sound m (by_usage u x f y)
   by-usage Blank b s r = b
   by-usage (Estimated wh cost) b s r = s cost
   by-usage (Metered wh cost) b s r = r
 
-  -- the places of the cells before
-  same : {x : Moved} → x.number ≡ m.number → x.place ≡ m.place → Placed x
-  same n p = record { number = rw n h.number; place = rw p h.place }
+  no : (k : ℕ) → Sound m (refusing m k)
+  no k = record { number = h.0; place = h.1; refused = λ _. refl }
+
+  taken : {x : Moved} → x.code ≡ 0 → x.number < 128 → x.place < 75 → Sound m x
+  taken c n p = record { number = n; place = p; refused = λ z. absurd (z c) }
+
+  -- accepted, at the same places
+  yes : {x : Moved} → x.code ≡ 0 → x.number ≡ m.number → x.place ≡ m.place → Sound m x
+  yes c n p = taken c (rw n h.0) (rw p h.1)
 
   charge-place : Early t m.totals e → e.sort ≡ 4 → charge_place t e < 75
   charge-place k s = let f = charge-limits e s k.limits in omega (arith, month-on t m.totals e k, f.kind.least, f.kind.most)
 
-  -- only a pay and a charge name other places than those of the cells
-  by-sorts : Early t m.totals e → Placed (by_sort t m charges marks warned e e.sort)
+  by-sorts : Early t m.totals e → Sound m (by_sort t m charges marks warned e e.sort)
   unfolding pay_of reverse_of credit_of charge_of estimate_of estimated_of read_of metered_of warn_of mark_of plan_of deferring_of served_of disconnect_of connect_of
-  by-sorts k = by-sort t m charges marks warned e Placed (record {
-    pays = λ _. branch Placed (leb 128 m.totals.count) (λ _. same refl refl) (λ f. record { number = leb-false 128 m.totals.count f; place = h.place });
-    reverses = λ _. test (leb m.totals.count e.number) (same refl refl) (test m.payment.reversed (same refl refl) (same refl refl));
-    credits = λ _. same refl refl;
-    charged = λ s. test (ltb max_total (get_or charges (charge_place t e) 0)) (same refl refl)
-        (record { number = h.number; place = charge-place k s });
-    estimates = λ _. test (leb e.day e.usage) (same refl refl) (by-usage m.day.usage (same refl refl) (λ _. same refl refl) (same refl refl));
-    reads = λ _. test (leb e.day e.usage) (same refl refl) (by-usage m.day.usage (same refl refl) (λ _. same refl refl) (same refl refl));
-    warns = λ _. same refl refl;
-    marked = λ _. same refl refl;
-    plans = λ _. test (plan_condition_met t m.totals marks e) (test (ltb 0 m.totals.plan) (same refl refl) (same refl refl)) (same refl refl);
-    disconnects = λ _. test (not m.totals.on) (same refl refl) (test (leb (m.totals.debit + t.cutoff) m.totals.credit) (same refl refl)
-        (test (is_missing (latest_warning warned e.day)) (same refl refl) (test (barred_on t marks e) (same refl refl) (same refl refl))));
-    connects = λ _. test m.totals.on (same refl refl)
-        (test (ltb m.totals.credit (m.totals.debit + t.connect)) (same refl refl) (same refl refl));
-    other = λ _. same refl refl;
+  by-sorts k = by-sort t m charges marks warned e (Sound m) (record {
+    pays = λ _. branch (Sound m) (leb 128 m.totals.count) (λ _. no 5) (λ f. taken refl (leb-false 128 m.totals.count f) h.1);
+    reverses = λ _. test (leb m.totals.count e.number) (no 6) (test m.payment.reversed (no 6) (yes refl refl refl));
+    credits = λ _. yes refl refl refl;
+    charged = λ s. test (ltb max_total (get_or charges (charge_place t e) 0)) (no 1) (taken refl h.0 (charge-place k s));
+    estimates = λ _. test (leb e.day e.usage) (no 7) (by-usage m.day.usage (yes refl refl refl) (λ _. no 8) (no 8));
+    reads = λ _. test (leb e.day e.usage) (no 7) (by-usage m.day.usage (yes refl refl refl) (λ _. yes refl refl refl) (no 8));
+    warns = λ _. yes refl refl refl;
+    marked = λ _. yes refl refl refl;
+    plans = λ _. test (plan_condition_met t m.totals marks e) (test (ltb 0 m.totals.plan) (no 10) (yes refl refl refl)) (no 9);
+    disconnects = λ _. test (not m.totals.on) (no 11) (test (leb (m.totals.debit + t.cutoff) m.totals.credit) (no 12)
+        (test (is_missing (latest_warning warned e.day)) (no 13) (test (barred_on t marks e) (no 14) (yes refl refl refl))));
+    connects = λ _. test m.totals.on (no 11) (test (ltb m.totals.credit (m.totals.debit + t.connect)) (no 12) (yes refl refl refl));
+    other = λ _. no 3;
   })
 
-  pub placed : Placed (move_of t m charges marks warned e)
+  pub sound : Sound m (move_of t m charges marks warned e)
   unfolding move_of
-  placed = branch Placed (eqb (early_code t m.totals e) 0) (λ y. by-sorts (early t m.totals e (eqb-true _ 0 y))) (λ _. same refl refl)
+  sound = branch (Sound m) (eqb (early_code t m.totals e) 0) (λ y. by-sorts (early t m.totals e (eqb-true _ 0 y))) (λ _. no _)

@@ -176,6 +176,9 @@ charge_bounds t s e h k =
     let f = charge-limits e k a.limits in
     record { month = month-on t s e a; least = f.kind.least; most = f.kind.most }
 
+pub mark_order : (t : Terms) (s : Totals) (e : Event) → early_code t s e ≡ 0 → e.sort ≡ 8 → e.from ≤ e.to
+mark_order t s e h k = (mark-limits e k (early t s e h).limits).from
+
 pub estimate_cost : (t : Terms) (s : Totals) (e : Event) → early_code t s e ≡ 0 → e.sort ≡ 5 → cost_of e.wh t.price ≤ 9999899
 estimate_cost t s e h k = cost-on t s e (early t s e h) (inl k)
 

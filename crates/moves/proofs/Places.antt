@@ -13,7 +13,7 @@ use Rattle.moves.specs.declared.Payment.{Payment}
 use Rattle.moves.specs.declared.Day.{Day}
 use Rattle.moves.specs.declared.Move.{Move}
 use Rattle.moves.specs.Moves.{Moved, cells_before, moved_of, move_of, IsMove}
-use Rattle.moves.proofs.Arms.{Placed, placed}
+use Rattle.moves.proofs.Arms.{Sound, sound}
 
 -- the move, as `move_of` promises it
 pub is_move : (t : Terms) (s : Totals) (payment : Payment) (day : Day) (charges marks warned : List ℕ) (e : Event) (r : Result Move Refusal)
@@ -22,5 +22,5 @@ pub is_move : (t : Terms) (s : Totals) (payment : Payment) (day : Day) (charges 
 unfolding cells_before
 is_move t s payment day charges marks warned e r q =
     let m : Moved = cells_before s payment day charges warned e in
-    let n : Placed (move_of t m charges marks warned e) = placed t m charges marks warned e (record { number = mod-lt e.number (omega arith); place = omega arith }) in
+    let n : Sound m (move_of t m charges marks warned e) = sound t m charges marks warned e (mod-lt e.number (omega arith), omega arith) in
     record { move = q; number = rw q n.number; place = rw q n.place }

@@ -15,7 +15,7 @@ use Rattle.moves.specs.declared.Usage.TheVariants.{Blank, Estimated, Metered}
 use Rattle.moves.specs.declared.Day.{Day}
 use Rattle.moves.specs.declared.Payment.{Payment}
 use Rattle.moves.specs.declared.Totals.{Totals}
-use Rattle.moves.specs.declared.Mark.{Mark}
+use Rattle.moves.specs.declared.mark.Mark.{Mark}
 use Rattle.moves.specs.declared.Move.{Move}
 
 -- No list of events takes a total past 2 ^ 60, or the payments past their limit: a record where one is past it is no account of this

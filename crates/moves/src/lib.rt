@@ -9,12 +9,14 @@ ghost use Rattle.moves.specs.Moves.{is_account, tallied, accepted, moved_of, by_
 use calendar::DAY_COUNT;
 use guard::Checked;
 use ledger::{Event, MAX_PAYMENTS, Refusal};
+pub use mark::Mark;
 use marks::DayBytes;
 use terms::Terms;
 
 mod charges;
 mod days;
 mod guard;
+mod mark;
 mod payments;
 mod service;
 
@@ -71,14 +73,6 @@ impl Totals {
             ..self
         }
     }
-}
-
-// A mark to be set from day `from` to day `to`; the kind is the event's number.
-#[derive(Clone, Copy, Debug, PartialEq, Eq)]
-pub struct Mark {
-    pub kind: u32,
-    pub from: u32,
-    pub to: u32,
 }
 
 // What an accepted event is answered, the totals after it, and the one cell of each array that it may change.

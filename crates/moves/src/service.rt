@@ -20,8 +20,9 @@ impl Checked {
         })
     }
 
-    #[tactic(auto, using(crate::proofs::Early::early), unfolding(crate::specs::Moves::mark_of))]
+    #[tactic(auto, using(crate::proofs::Early::early, crate::proofs::Early::mark_order), unfolding(crate::specs::Moves::mark_of))]
     pub(crate) fn mark(self) -> Result<Move, Refusal>
+        requires { self.event.sort ≡ 8 }
         ensures { moved_of (accepted self.before) result ≡ mark_of self.terms (accepted self.before) self.event }
     {
         let e = self.event;

@@ -107,7 +107,7 @@ fn post_events(a: &mut Account, text: &[u8])
     let mut rest = text;
     while let Some((event, after)) = text::read_event(rest) {
         // a refused event leaves the account as it is
-        let _ = a.post(event);
+        let _ = posting::post(a, event);
         rest = after;
     }
 }
