@@ -1,6 +1,6 @@
 -- `statement::post_events` meets its contract. Assumes nothing.
 use Rattle.std.proofs.Common.{refl, sym, ap, ◌∙◌, arith}
-use Rattle.account.specs.Step.{Stepped}
+use Rattle.account.specs.declared.Account.{Account}
 use Rattle.refinement.specs.Lists.{account_after}
 use Rattle.statement.specs.Statement.{events_of}
 use Rattle.statement.proofs.Events.{posts, ends}
@@ -14,7 +14,7 @@ loop-event-smaller c = omega (arith, c.in-Some.ensures.shorter)
 
 pub loop-event-preserved : goal.loop-event-preserved
 loop-event-preserved c =
-    ap (λ (p : Stepped). account_after p.account (events_of c.in-Some.after.now)) c.post.ensures
+    ap (λ (a : Account). account_after a (events_of c.in-Some.after.now)) c.post.ensures.account
     ∙ sym (posts _ _ _ c.loop-event.a c.in-Some.ensures.read)
     ∙ c.loop-event.invariant
 
