@@ -168,11 +168,11 @@ module _ {M : Type 1} {𝓤 : Ura M} (𝓛 : Logic 𝓤) (at_mem : Memory → SP
   called a (single e) r b =
       ex_e 𝓤 _ (λ κs. ex_e 𝓤 _ (λ x. ex_e 𝓤 _ (λ n.
       via 𝓤 _ (both ((x.now ≡ a) × (r ≡ answered (answer_record n))) (Posts x.now e b (answer_record n)) (id⊢ 𝓤 _) (post-promises κs x e b n))
-      (fact_mono 𝓤 _ (Called a (single e) r b) (λ q. (n, subst (λ (z : Account). Posts z e b (answer_record n)) q.0.0 q.1, q.0.1))))))
+      (fact_mono 𝓤 _ (Called a (single e) r b) (λ q. (answer_record n, subst (λ (z : Account). Posts z e b (answer_record n)) q.0.0 q.1, q.0.1))))))
   called a (row es buffer) r b =
       ex_e 𝓤 _ (λ κs. ex_e 𝓤 _ (λ x. ex_e 𝓤 _ (λ y. ex_e 𝓤 _ (λ z. ex_e 𝓤 _ (λ n. ex_e 𝓤 _ (λ bytes.
       via 𝓤 _ (both ((x.now ≡ a) × (y.now ≡ es) × (z.now ≡ buffer) × (r ≡ written (code_of n) bytes)) (PostsRow x.now y.now z.now b bytes (code_of n)) (id⊢ 𝓤 _) (row-promises κs x y z b bytes n))
-      (fact_mono 𝓤 _ (Called a (row es buffer) r b) (λ q. (n, bytes, rw (sym q.0.0, sym q.0.1, sym q.0.2) q.1, q.0.3)))))))))
+      (fact_mono 𝓤 _ (Called a (row es buffer) r b) (λ q. (code_of n, bytes, rw (sym q.0.0, sym q.0.1, sym q.0.2) q.1, q.0.3)))))))))
 
   runs : (cs : List Call) (vs : List Seen) (a : Account) → ent 𝓤 (CallsSay a cs vs) (fact 𝓤 (RunsFrom a cs vs))
   unfolding CallsSay

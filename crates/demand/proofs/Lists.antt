@@ -2,29 +2,24 @@
 -- Assumes nothing.
 use Prim.Native.Nat.{ℕ}
 use mathlib.Core.Path.{◌≡◌, refl, sym, ap, ◌∙◌}
-use native.Mathlib.Omega.{arith}
-use mathlib.Core.Bool.{Bool, true, false, cond, ◌&&◌, true≢false}
+use mathlib.Core.Bool.{cond}
 use mathlib.Core.List.{List, [], ◌∷◌, ◌++◌}
 use mathlib.Core.Logic.{◌↔◌}
 use lib.ListN.{length, get_or, drop}
-use lib.Dec.{ltb, eqb}
+use lib.Dec.{ltb}
 use lib.IntN.{ℤ, pos, nat_abs, ◌+ℤ◌, ◌-ℤ◌, +ℤ_idr, +ℤ_invr, +ℤ_comm, +ℤ-neg_ℤ_cancel}
-use borrow.Author.Tests.{eqb-true, ltb-true, ne_eqb}
-use Rattle.std.specs.Prelude.{Result, Ok, Err}
+use borrow.Author.Tests.{eqb-true}
 use Rattle.terms.specs.Terms.{terms_code}
 use Rattle.terms.specs.declared.Terms.{Terms}
 use Rattle.ledger.specs.declared.Event.{Event}
-use Rattle.ledger.specs.declared.Refusal.{Refusal}
-use Rattle.ledger.specs.declared.Refusal.TheVariants.{Buffer}
-use Rattle.ledger.specs.declared.Refusal.TheVariants as variant
-use Rattle.ledger.specs.Refusals.{refusal_code, code_of, answer_record}
+use Rattle.ledger.specs.declared.Answer.{Answer}
 use Rattle.ledger.specs.Entries.{usage_day, estimate_cost_of}
-use Rattle.ledger.specs.Rules.{Ledger, Rule, refusals, first_of}
+use Rattle.ledger.specs.Rules.{Ledger}
 use Rattle.ledger.specs.Sums.{settled, standing_cost}
-use Rattle.ledger.specs.Ledger.{opening, answer, refusal, effect_of, ledger_step, ledger_after}
+use Rattle.ledger.specs.Ledger.{opening, ledger_step, ledger_after}
 use Rattle.ledger.specs.Calls.{Call, single, row, Back, answered, written, fed, ledger_called, ledger_codes, ledger_back}
 use Rattle.ledger.specs.Invariant.{Invariant}
-use Rattle.ledger.proofs.Cases.{decide, both}
+use Rattle.ledger.proofs.Cases.{decide}
 use Rattle.ledger.proofs.Rows.{code_at}
 use Rattle.ledger.proofs.Identity.{settled_is}
 use Rattle.ledger.proofs.Disconnect.{disconnect-granted}
@@ -35,8 +30,8 @@ use Rattle.account.specs.declared.Account.{Account}
 use Rattle.refinement.specs.Lists.{account_after}
 use Rattle.refinement.specs.Agree.{Represents}
 use Rattle.refinement.proofs.Lists.{represents-fresh, represents-after, opened-valid}
-use Rattle.posting.specs.Posting.{row_of}
-use Rattle.posting.proofs.Ledgers.{answer_is, answer_back, row_back, row-account, posts, posts-row}
+use Rattle.posting.specs.Posting.{answer_of, row_of}
+use Rattle.posting.proofs.Ledgers.{answer_back, row_back, row-account, posts, posts-row}
 use Rattle.readings.specs.Readings.{balance_of, settled_of}
 use Rattle.readings.proofs.After.{balance-reading, settled-reading, is-balance, is-plan, is-service, is-settled, is-estimates}
 use Rattle.demand.specs.Calls.{Readings, Seen, ShowsReadings, Called, RunsFrom}
@@ -137,55 +132,17 @@ reads a = record {
   standing = is-estimates a.totals;
 }
 
--- whether the rules have the numbers of these refusals, none of them 0
-numbered : List Rule → List Refusal → Bool
-numbered [] xs = true
-numbered (r ∷ rs) [] = false
-numbered (r ∷ rs) (x ∷ xs) = eqb r.0 (refusal_code x) && (ltb 0 r.0 && numbered rs xs)
-
--- what the ledger answers to an event that the number k refuses, and accepts with the value v where that is 0, is a result's
-IsAnswer : ℕ → ℕ → Type 0
-IsAnswer k v = (n : Result ℕ Refusal) × (answer_record n ≡ cond (eqb k 0) (answer 0 v) (answer k 0))
-
-first-numbered : (v : ℕ) (rs : List Rule) (xs : List Refusal) → numbered rs xs ≡ true → IsAnswer (first_of rs) v
-unfolding first_of numbered IsAnswer
-first-numbered v [] xs q = (Ok v, refl)
-first-numbered v (r ∷ rs) [] q = absurd (true≢false (sym q))
-first-numbered v (r ∷ rs) (x ∷ xs) q =
-    let b = both (eqb r.0 (refusal_code x)) _ q in
-    let c = both (ltb 0 r.0) _ b.1 in
-    decide r.1
-    (λ y. simp (y, ne_eqb r.0 0 (λ z. omega (arith, ltb-true 0 r.0 c.0, z))) (Err x, rw (eqb-true r.0 (refusal_code x) b.0)))
-    (λ f. simp f (first-numbered v rs xs c.1))
-
--- the ledger's answer to an event is a result's
-result-of : (t : Terms) (l : Ledger) (e : Event) → (n : Result ℕ Refusal) × (answer_record n ≡ (ledger_step t l e).answer)
-unfolding ledger_step refusal refusals IsAnswer numbered
-result-of t l e =
-    let n : IsAnswer (refusal t l e) (effect_of t l e).value = first-numbered _ _ (variant.Day ∷ variant.Limits ∷ variant.Full ∷ variant.Payments ∷ variant.Payment ∷ variant.UsageDay ∷ variant.UsageState ∷ variant.PlanCondition ∷ variant.PlanUnpaid ∷ variant.Service ∷ variant.Balance ∷ variant.Warning ∷ variant.Barred ∷ []) refl in
-    (n.0, n.1 ∙ decide (eqb (refusal t l e) 0) (λ y. simp y) (λ f. simp f))
-
--- the row's own answer
-row-result : (a : Account) (es : List Event) (buffer : List ℕ) → (n : Result Unit Refusal) × ((row_of a es buffer).answer ≡ code_of n)
-unfolding row_of
-row-result a es buffer = decide (ltb (length buffer) (length es)) (λ y. (Err Buffer, simp y)) (λ n. (Ok tt, simp n))
-
--- each call hands back something, and leaves an account
-some-back : (t : Terms) (a : Account) (l : Ledger) → Represents t a l → (c : Call) → (r : Back) × (b : Account) × Called a c r b
-some-back t a l s (single e) =
-    let n = result-of t l e in
-    (answered (answer_record n.0), (step_of a e).account, (n.0, posts a e _ _ refl (n.1 ∙ sym (answer_is t a l s e)), refl))
-some-back t a l s (row es buffer) =
+runs_of : (cs : List Call) (a : Account) → (vs : List Seen) × RunsFrom a cs vs
+runs_of [] a = ([], tt)
+runs_of (single e ∷ cs) a =
+    let b : Account = (step_of a e).account in
+    let r : Answer = answer_of (step_of a e) in
+    let more = runs_of cs b in
+    (record { back = answered r; after = read b } ∷ more.0, (b, (r, posts a e b r refl refl, refl), reads b, more.1))
+runs_of (row es buffer ∷ cs) a =
     let w = row_of a es buffer in
-    let n = row-result a es buffer in
-    (written (code_of n.0) w.bytes, w.account, (n.0, w.bytes, posts-row a es buffer w.account w.bytes _ refl refl (sym n.1), refl))
-
-runs_of : (t : Terms) (cs : List Call) (a : Account) (l : Ledger) → Represents t a l → (vs : List Seen) × RunsFrom a cs vs
-runs_of t [] a l s = ([], tt)
-runs_of t (c ∷ cs) a l s =
-    let (r, b, p) = some-back t a l s c in
-    let more = runs_of t cs b (ledger_called t l c) (follows t a l s c r b p).stands in
-    (record { back = r; after = read b } ∷ more.0, (b, p, reads b, more.1))
+    let more = runs_of cs w.account in
+    (record { back = written w.answer w.bytes; after = read w.account } ∷ more.0, (w.account, (w.answer, w.bytes, posts-row a es buffer w.account w.bytes w.answer refl refl refl, refl), reads w.account, more.1))
 
 -- ---- from what `account::open` promises
 
@@ -195,5 +152,5 @@ demand-3 t = record {
   every = λ first cs vs (a, is, f, q).
       let s : Represents t a opening = rw (ap (λ (o : Opened). o.account) is) (represents-fresh t (opened-valid t a is)) in
       (shows-is t a opening s first f, calls-hold t cs vs a opening s q);
-  some = λ v cs. let r = runs_of t cs (fresh t) opening (represents-fresh t v) in (read (fresh t), r.0, (fresh t, simp v, reads (fresh t), r.1));
+  some = λ v cs. let r = runs_of cs (fresh t) in (read (fresh t), r.0, (fresh t, simp v, reads (fresh t), r.1));
 }

@@ -1,8 +1,7 @@
 -- Lists of posting calls, and what is seen of them by the promises of the calls.
-use Rattle.std.specs.Prelude.{ℕ, ◌≡◌, Bool, List, [], ◌∷◌, ℤ, Result, Ok}
+use Rattle.std.specs.Prelude.{ℕ, ◌≡◌, Bool, List, [], ◌∷◌, ℤ, Ok}
 use Rattle.terms.specs.declared.Terms.{Terms}
-use Rattle.ledger.specs.declared.Refusal.{Refusal}
-use Rattle.ledger.specs.Refusals.{code_of, answer_record}
+use Rattle.ledger.specs.declared.Answer.{Answer}
 use Rattle.ledger.specs.Calls.{Call, single, row, Back, answered, written}
 use Rattle.moves.specs.declared.Totals.{Totals}
 use Rattle.account.specs.Step.{IsOpened}
@@ -33,8 +32,8 @@ pub record ShowsReadings (s : Totals) (r : Readings) : Type 0 where
 
 -- by the promises of `post` and `post_row`, of a result n: the call that gets account a may leave account b and hand back r
 abbrev pub Called : Account → Call → Back → Account → Type 0
-Called a (single e) r b = (n : Result ℕ Refusal) × Posts a e b (answer_record n) × (r ≡ answered (answer_record n))
-Called a (row es buffer) r b = (n : Result Unit Refusal) × (bytes : List ℕ) × PostsRow a es buffer b bytes (code_of n) × (r ≡ written (code_of n) bytes)
+Called a (single e) r b = (n : Answer) × Posts a e b n × (r ≡ answered n)
+Called a (row es buffer) r b = (n : ℕ) × (bytes : List ℕ) × PostsRow a es buffer b bytes n × (r ≡ written n bytes)
 
 -- "each posting call gets the account as the call before left it"
 abbrev pub RunsFrom : Account → List Call → List Seen → Type 0

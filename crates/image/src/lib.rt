@@ -1,10 +1,10 @@
 // The account record as numbers alone, for a head in C that keeps it in its own memory, and the calls over it by value.
-// It uses the calendar, the terms, the ledger's event, the moves, the account, the readings and the month's figures. Its promises cite
+// It uses the calendar, the terms, the ledger's event and refusals, the marks, the moves, the account, the readings and the month's figures. Its promises cite
 // specs/Image.antt.
 #![tactic(auto)]
 
 ghost use Rattle.std.specs.Prelude.{◌≡◌};
-ghost use Rattle.ledger.specs.Refusals.{summary_record};
+ghost use Rattle.ledger.specs.Refusals.{value_of, summary_record};
 ghost use Rattle.image.specs.Image.{is_day_image, day_image, day_of, is_payment_image, payment_image, payment_of};
 ghost use Rattle.image.specs.Image.{totals_image, totals_of, is_image, account_of, image_of, image_after};
 ghost use Rattle.image.specs.Image.{opening_of, opened_of, posting_of, posted_of, readings_of, summary_in, Inverse, CallsAgree};
@@ -282,7 +282,8 @@ pub fn calls_agree()
 
 // The image of a fresh account of these terms. Where they are outside their limits it is refused by 1, and so is every event.
 pub fn open(t: Terms) -> Posted<Image>
-    ensures { opening_of result.account result.answer ≡ opened_of t }
+    ensures opened { opening_of result.account result.answer ≡ opened_of t }
+    ensures value { value_of result.answer ≡ 0 }
 {
     let answer = t.is_valid().then_some(0).ok_or(Refusal::Terms);
     Posted {

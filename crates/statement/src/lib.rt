@@ -1,5 +1,6 @@
 // What `summary` prints for a text: its month figures, put whole into a lent buffer.
-// It uses the calendar, the terms, the account, the event text, the month's figures, the printing and the transcript. Its promise cites
+// It uses the calendar, the terms, the ledger's refusals, the account, the posting call, the event text, the month's figures, the printing and
+// the transcript. Its promise cites
 // specs/Statement.antt, and inside the crate specs/Work.antt.
 #![tactic(auto)]
 

@@ -8,18 +8,16 @@ use lib.ListN.{length}
 use lib.Dec.{ltb}
 use borrow.Author.Tests.{lt-ltb, le-ltb, ltb-true, ltb-false}
 use Rattle.std.proofs.Common.{Result, Ok, Err}
-use Rattle.std.specs.Result.{result_err}
 use Rattle.terms.specs.Terms.{valid_terms, terms_code}
 use Rattle.terms.specs.declared.Terms.{Terms}
 use Rattle.ledger.specs.declared.Refusal.{Refusal}
-use Rattle.ledger.specs.Refusals.{refusal_code}
+use Rattle.ledger.specs.Refusals.{refusal_code, code_of}
 use Rattle.ledger.proofs.Cases.{decide}
 use Rattle.account.specs.Step.{Opened, IsOpened}
 use Rattle.account.specs.declared.Account.{Account}
 use Rattle.refinement.proofs.Lists.{opened-valid}
 use Rattle.scanner.specs.Scanner.{Read, got, broken}
 use Rattle.text.specs.Text.{read_terms}
-use Rattle.transcript.specs.Progress.{code_or_0}
 use Rattle.transcript.specs.Transcript.{terms_line, by_terms, by_text, terms_in}
 
 -- what was read is not broken
@@ -77,7 +75,7 @@ module _ (t : Terms) where
         (λ v. absurd (omega (arith, positive r, code, code-0 v)))
         (λ f. invalid f ∙ ap terms_line (sym (code ∙ code-1 f)))
 
-  -- why `open` makes no account
-  pub refusal-is : (r : Result Account Refusal) → IsOpened t r → code_or_0 (result_err r) ≡ terms_code t
+  -- what `open` answers
+  pub refusal-is : (r : Result Account Refusal) → IsOpened t r → code_of r ≡ terms_code t
   refusal-is (Ok a) is = ap (λ (o : Opened). o.code) is
   refusal-is (Err e) is = ap (λ (o : Opened). o.code) is

@@ -155,8 +155,12 @@ next-event text at e r h g =
     rw there at g
 
 -- the progress that is left is the loop's
-pub left-as : {text : List ℕ} {p : Reached} {first out : List ℕ} (b : Progress) (n : ℕ) (done : Bool) → b.refusal ≡ None → b.done ≡ done
+pub left-as : {text : List ℕ} {p : Reached} {first out : List ℕ} (b : Progress) (n : ℕ) (done : Bool) → b.code ≡ 0 → b.done ≡ done
     → Piece text p first out (among_events b.account b.at b.count n done) → Piece text p first out (reached b n)
 left-as {text} {p} {first} {out} b n done none d m =
-    let is : reached b n ≡ among_events b.account b.at b.count n done = ap₂ (λ (r : Option Refusal) (x : Bool). reached (record b { refusal = r; done = x }) n) none d in
+    let is : reached b n ≡ among_events b.account b.at b.count n done = ap₂ (λ (k : ℕ) (x : Bool). reached (record b { code = k; done = x }) n) none d in
     subst (λ (r : Reached). Piece text p first out r) (sym is) m
+
+-- how many bytes the piece before had tells nothing of the next
+pub any-length : {text : List ℕ} (p : Progress) {first out : List ℕ} (q : Reached) (n : ℕ) → Piece text (reached p 0) first out q → Piece text (reached p n) first out q
+any-length p q n r = record { progress = r.progress; lines = r.lines; others = r.others; inside = r.inside; more = r.more }

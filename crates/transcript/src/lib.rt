@@ -1,16 +1,16 @@
 // What `prepay` prints for a text: whole into a lent buffer, or in pieces through one of any size.
-// It uses the terms, the ledger, the event text, the moves, the account, the readings and the printing. Its promises cite specs/Transcript.antt,
+// It uses the terms, the ledger's answers, the scanner's and the text's reading, the moves, the account, the readings and the printing. Its promises cite specs/Transcript.antt,
 // specs/Counts.antt and specs/Pieces.antt, which use specs/Events.antt, specs/Progress.antt and specs/Work.antt.
 #![tactic(auto)]
 
-ghost use Rattle.std.specs.Prelude.{◌≡◌, false, None, ◌+◌, ◌≤◌, length};
-ghost use Rattle.ledger.specs.Refusals.{refusal_code, code_of, value_of};
+ghost use Rattle.std.specs.Prelude.{◌≡◌, ℕ, false, ◌+◌, ◌≤◌, ◌<◌, length};
+ghost use Rattle.ledger.specs.Refusals.{refusal_code};
 ghost use Rattle.account.specs.Record.{fresh};
 ghost use Rattle.printing.specs.Printer.{Writes};
 ghost use Rattle.scanner.specs.Scanner.{IsRead};
 ghost use Rattle.transcript.specs.Transcript.{WholeTranscript, terms_line, terms_in};
 ghost use Rattle.transcript.specs.Work.{account_line, account_last_line};
-ghost use Rattle.transcript.specs.Progress.{code_or_0, reached};
+ghost use Rattle.transcript.specs.Progress.{reached};
 ghost use Rattle.transcript.specs.Pieces.{event_room, last_room, piece_room, progress_of, Begun, Piece};
 ghost use Rattle.transcript.specs.Counts.{CountsSuffice};
 
@@ -19,6 +19,9 @@ use ledger::{Answer, Refusal};
 use moves::Totals;
 use printing::Printer;
 use terms::Terms;
+
+// The bytes that an event's line has at most.
+const EVENT_ROOM: usize = 114;
 
 // A buffer with room for an event's line and the last line; one that holds any transcript.
 pub const PIECE_ROOM: usize = 174;
@@ -33,21 +36,20 @@ pub struct Progress {
     // where the next event starts, and how many were printed
     pub at: usize,
     pub count: u64,
-    // why the terms have no account
-    pub refusal: Option<Refusal>,
-    // whether no piece is left
+    // 0, or the code of terms that are malformed or refused: a number, since a narrower type would ask more of callers
+    pub code: u8,
+    // whether no piece is left; beside the code, since the promise keeps the code after the last piece
     pub done: bool,
 }
 
 // ---- one line
 
 // The line of an event, by its answer and the totals after it.
-fn put_event(page: &mut Printer, n: u64, answer: Result<u64, Refusal>, s: Totals)
+fn put_event(page: &mut Printer, n: u64, answer: Answer, s: Totals)
     requires { page.old.at + event_room ≤ length page.old.out.now }
-    ensures printed { Writes page.old (account_line n (code_of answer) (value_of answer) s) page.new }
+    ensures printed { Writes page.old (account_line n answer.code answer.value s) page.new }
     ensures upper_bound { page.new.at ≤ page.old.at + event_room }
 {
-    let answer = Answer::from(answer);
     page.put_field(b"n=", n);
     page.put_field(b" code=", u64::from(answer.code));
     page.put_field(b" value=", answer.value);
@@ -56,12 +58,22 @@ fn put_event(page: &mut Printer, n: u64, answer: Result<u64, Refusal>, s: Totals
     page.put_bytes(b"\n");
 }
 
-// The one line of terms that break their form or their limits.
-pub fn put_refusal(page: &mut Printer, refusal: Refusal)
+// The line of refused or malformed terms.
+fn put_terms(page: &mut Printer, code: u8)
     requires { page.old.at + event_room ≤ length page.old.out.now }
-    ensures { Writes page.old (terms_line (refusal_code refusal)) page.new }
+    ensures { Writes page.old (terms_line code) page.new }
 {
-    put_event(page, 0, Err(refusal), Totals::default());
+    put_event(page, 0, Answer { code, value: 0 }, Totals::default());
+}
+
+// The same for a refusal. Nothing is put where an event's line might have no room.
+pub fn put_refusal(page: &mut Printer, refusal: Refusal)
+    ensures printed { page.old.at + event_room ≤ length page.old.out.now → Writes page.old (terms_line (refusal_code refusal)) page.new }
+    ensures short { length page.old.out.now < page.old.at + event_room → page.new ≡ page.old }
+{
+    if page.out.len().saturating_sub(page.at) >= EVENT_ROOM {
+        put_terms(page, refusal.code());
+    }
 }
 
 // The last line, by the totals.
@@ -93,14 +105,14 @@ pub fn read_terms(text: &[u8]) -> Option<(Terms, &[u8])>
 
 impl Progress {
     // At a place of the text, with nothing printed.
-    fn start(terms: Terms, at: usize, refusal: Option<Refusal>) -> Progress
-        ensures { reached result 0 ≡ progress_of (fresh terms) at 0 (code_or_0 refusal) 0 false }
+    fn start(terms: Terms, at: usize, code: u8) -> Progress
+        ensures { reached result 0 ≡ progress_of (fresh terms) at 0 code 0 false }
     {
         Progress {
             account: Account::fresh(terms),
             at,
             count: 0,
-            refusal,
+            code,
             done: false,
         }
     }
@@ -111,16 +123,16 @@ impl Progress {
     {
         match read_terms(text) {
             Some((terms, rest)) => {
-                let refusal = account::open(terms).err();
-                Progress::start(terms, text.len() - rest.len(), refusal)
+                let code = ledger::code(account::open(terms));
+                Progress::start(terms, text.len() - rest.len(), code)
             }
-            None => Progress::start(Terms::default(), 0, Some(Refusal::Form)),
+            None => Progress::start(Terms::default(), 0, Refusal::Form.code()),
         }
     }
 
     // The lines of the events, while there is room for one and for the last line, and the last line.
     fn put_events(&mut self, text: &[u8], out: &mut [u8]) -> usize
-        requires { (self.old.done ≡ false) × (self.old.refusal ≡ None) × (self.old.count ≤ self.old.at) × (piece_room ≤ length out.old) }
+        requires { (self.old.done ≡ false) × (self.old.code ≡ 0) × (self.old.count ≤ self.old.at) × (piece_room ≤ length out.old) }
         ensures { Piece text.now (reached self.old 0) out.old out.new (reached self.new result) }
     {
         let mut page = Printer { out, at: 0 };
@@ -129,18 +141,19 @@ impl Progress {
                 return page.at;
             }
             let Some((event, rest)) = text::read_event(&text[self.at..]) else {
-                put_event(
-                    &mut page,
-                    self.count + 1,
-                    Err(Refusal::Form),
-                    self.account.totals,
-                );
+                let malformed = Answer::from(Err(Refusal::Form));
+                put_event(&mut page, self.count + 1, malformed, self.account.totals);
                 break;
             };
             let answer = self.account.post(event);
             self.at = text.len() - rest.len();
             self.count += 1;
-            put_event(&mut page, self.count, answer, self.account.totals);
+            put_event(
+                &mut page,
+                self.count,
+                Answer::from(answer),
+                self.account.totals,
+            );
         }
         put_last_line(&mut page, self.account.totals);
         self.done = true;
@@ -149,7 +162,7 @@ impl Progress {
 
     // The next piece, from the start of the buffer on, and how many bytes it has. A buffer shorter than `PIECE_ROOM` gets none.
     pub fn piece(&mut self, text: &[u8], out: &mut [u8]) -> usize
-        ensures { Piece text.now (reached self.old 0) out.old out.new (reached self.new result) }
+        ensures { (n : ℕ) → Piece text.now (reached self.old n) out.old out.new (reached self.new result) }
     {
         if out.len() < PIECE_ROOM || self.done {
             return 0;
@@ -158,12 +171,12 @@ impl Progress {
             self.done = true;
             return 0;
         }
-        let Some(refusal) = self.refusal else {
+        if self.code == 0 {
             return self.put_events(text, out);
-        };
+        }
         self.done = true;
         let mut page = Printer { out, at: 0 };
-        put_refusal(&mut page, refusal);
+        put_terms(&mut page, self.code);
         page.at
     }
 }

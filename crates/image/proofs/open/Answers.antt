@@ -7,14 +7,14 @@ use Rattle.terms.specs.Terms.{terms_code}
 use Rattle.image.specs.Image.{image_of, opened_of}
 use Rattle.image.proofs.open.Goals as goal
 
-code-is : (b : Bool) → code_of {A = ℕ} (ok_or (then_some b 0) refusal.Terms) ≡ cond b 0 1
-code-is true = refl
-code-is false = refl
+code-is : (b : Bool) (v : ℕ) → code_of (ok_or (then_some b v) refusal.Terms) ≡ cond b 0 1
+code-is true v = refl
+code-is false v = refl
 
-pub returns : goal.returns
+pub returns-clause-opened : goal.returns-clause-opened
 unfolding opened_of terms_code
-returns c =
+returns-clause-opened c =
     let image = c.from.ensures ∙ ap image_of c.fresh.ensures in
     let answer = c.ok_or-answer.ensures.value ∙ ap (λ (x : Option ℕ). ok_or x refusal.Terms) c.then_some.ensures in
-    let code = ap (λ (x : Result ℕ Refusal). code_of x) answer ∙ code-is c.is_valid.result ∙ ap (λ (b : Bool). cond b 0 1) c.is_valid.ensures in
+    let code = ap (λ (x : Result ℕ Refusal). code_of x) answer ∙ code-is c.is_valid.result _ ∙ ap (λ (b : Bool). cond b 0 1) c.is_valid.ensures in
     λ k. record { image = image k; code = code k }

@@ -14,7 +14,7 @@ loop-d-preserved c =
     let i = c.loop-d.d-index in
     let r = c.args.days.now in
     let h : i < r.end - r.start = omega arith in
-    let at = get_or-take (r.end - r.start) _ i blank_day h ∙ get_or-drop r.start c.args.usage.now i blank_day in
+    let at = get_or-take _ _ i blank_day h ∙ get_or-drop r.start c.args.usage.now i blank_day in
     let v = c.used_on-day.ensures.value ∙ ap (λ (d : Day). used_on c.args.metered d.usage) at in
     (used-turn _ _ i (omega arith) _ _ _ c.loop-d.invariant.0 v, omega arith, omega arith)
 

@@ -1,5 +1,5 @@
 -- `statement::statement` meets its contract. Assumes nothing.
-use Rattle.std.proofs.Common.{ℕ, rules, sym, ap, ◌∙◌}
+use Rattle.std.proofs.Common.{ℕ, rules, sym, ap, ◌∙◌, arith}
 use Rattle.account.specs.declared.Account.{Account}
 use Rattle.months.specs.Summary.{summary_of}
 use Rattle.printing.specs.Printer.{Writes}
@@ -21,6 +21,6 @@ returns c =
           in-buffer c.match-open.page.out.now (search (rules, sym v.same)) (all-put _ _ c.if-out-lt-STATEMENT_ROOM.false v.wrote
           (months-printed _ _ _ w.in-Ok.ensures ∙ ap (λ (a : Account). month_lines (λ (m : ℕ). summary_of a m) 15) (sym w.post_events.ensures)))
       | in-Err w ↦
-          let v : Writes _ _ c.match-open.page = rw (sym w.page-is) at w.put_refusal.ensures in
+          let v : Writes _ _ c.match-open.page = rw (sym w.page-is) at w.put_refusal.ensures.printed (omega (arith, c.if-out-lt-STATEMENT_ROOM.false)) in
           in-buffer c.match-open.page.out.now (search (rules, sym v.same)) (all-put _ _ c.if-out-lt-STATEMENT_ROOM.false v.wrote (w.in-Err.ensures all_months))
     ]

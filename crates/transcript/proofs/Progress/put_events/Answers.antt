@@ -1,9 +1,9 @@
 -- `Progress::put_events` meets its contract. Assumes nothing.
 use Rattle.std.proofs.Common.{rules, refl, sym, ap, ◌∙◌, true, arith}
 use lib.ListN.{length-drop}
+use Rattle.ledger.specs.declared.Answer.{Answer}
 use Rattle.account.specs.Step.{stepped_of}
 use Rattle.printing.specs.Printer.{Writes}
-use Rattle.transcript.specs.Progress.{code_or_0}
 use Rattle.transcript.proofs.Whole.{in-buffer}
 use Rattle.transcript.proofs.Turn.{begins, turns, pauses, stops, ends, room_left, from-place, next-event, left-as}
 use Rattle.transcript.proofs.Progress.put_events.Goals.{else-loop-self-test, then-loop-self-test+else-page-lt-PIECE_ROOM+in_default}
@@ -21,7 +21,7 @@ returns-then-page-lt-PIECE_ROOM c =
     let i = c.loop-self.invariant in
     in-buffer c.loop-self.page.out.now (search (rules, sym i.0))
     (left-as c.loop-self.self _ _ i.1 i.2
-    (pauses _ _ _ _ _ _ _ _ i.3 r.0 (ap code_or_0 r.1) r.2 r.3 c.loop-self-test.true c.if-page-lt-PIECE_ROOM.true))
+    (pauses _ _ _ _ _ _ _ _ i.3 r.0 r.1 r.2 r.3 c.loop-self-test.true c.if-page-lt-PIECE_ROOM.true))
 
 pub slice_bounds-read_event-count : goal.slice_bounds-read_event-count
 slice_bounds-read_event-count c = omega (arith, c.loop-self-test.true)
@@ -52,13 +52,14 @@ pub loop-self-preserved : goal.loop-self-preserved
 loop-self-preserved c =
     let i = c.loop-self.invariant in
     let line = c.put_event-in-loop-self.ensures in
+    let wrote = rw (ap (λ (a : Answer). a.code) c.from.ensures, ap (λ (a : Answer). a.value) c.from.ensures) at line.printed.wrote in
     let e = rw (from-place c.args.text.now c.loop-self.self.at) at c.in-Some.ensures in (
       line.printed.same ∙ i.0,
       i.1,
       i.2,
       turns _ _ _ _ _ _ _ _ _ _ i.3 _ _ (stepped_of c.post-answer.new.self c.post-answer.result) _ _ c.loop-self-test.true
           (next-event _ _ _ _ c.loop-self-test.true e.read) (omega (arith, e.shorter, length-drop c.loop-self.self.at c.args.text.now)) (omega arith)
-          c.if-page-lt-PIECE_ROOM.false c.post-answer.ensures line.printed.wrote line.upper_bound,
+          c.if-page-lt-PIECE_ROOM.false c.post-answer.ensures wrote line.upper_bound,
     )
 
 pub put_last_line-requires : goal.put_last_line-requires
@@ -77,10 +78,12 @@ returns c =
           let v : Writes c.loop-self.page _ p = rw w.page-is at c.put_last_line.ensures in
           in-buffer p.out.now (search (rules, sym (v.same ∙ i.0)))
           (left-as (record c.loop-self.self { done = true }) p.at true i.1 refl
-          (ends _ _ _ _ _ _ _ _ i.3 r.0 (ap code_or_0 r.1) r.2 r.3 _ _ w.loop-self-test.false v.wrote))
+          (ends _ _ _ _ _ _ _ _ i.3 r.0 r.1 r.2 r.3 _ _ w.loop-self-test.false v.wrote))
       | then-loop-self-test+else-page-lt-PIECE_ROOM+in_default w ↦
           let v : Writes w.put_event.new.page _ p = rw w.page-is at c.put_last_line.ensures in
+          let f = w.from-malformed.ensures in
+          let line = rw (ap (λ (a : Answer). a.code) f, ap (λ (a : Answer). a.value) f) at w.put_event.ensures.printed.wrote in
           in-buffer p.out.now (search (rules, sym (v.same ∙ w.put_event.ensures.printed.same ∙ i.0)))
           (left-as (record c.loop-self.self { done = true }) p.at true i.1 refl
-          (stops _ _ _ _ _ _ _ _ i.3 r.0 (ap code_or_0 r.1) r.2 r.3 _ _ _ _ w.loop-self-test.true w.if-page-lt-PIECE_ROOM.false (rw (from-place c.args.text.now c.loop-self.self.at) at w.in_default.ensures.read) w.put_event.ensures.printed.wrote v.wrote))
+          (stops _ _ _ _ _ _ _ _ i.3 r.0 r.1 r.2 r.3 _ _ _ _ w.loop-self-test.true w.if-page-lt-PIECE_ROOM.false (rw (from-place c.args.text.now c.loop-self.self.at) at w.in_default.ensures.read) line v.wrote))
     ]
