@@ -17,8 +17,7 @@ use Rattle.printing.proofs.Placed.{kept, wrote_then}
 use Rattle.transcript.specs.Events.{fold_by, fold_events}
 use Rattle.transcript.specs.Work.{account_line, account_last_line, account_lines}
 use Rattle.transcript.specs.Pieces.{lines_from, remaining, among_events, piece_by, piece_from, Piece}
-use Rattle.std.proofs.Common.{Option, None, take_all}
-use Rattle.ledger.specs.declared.Refusal.{Refusal}
+use Rattle.std.proofs.Common.{take_all}
 use Rattle.transcript.specs.declared.Progress.{Progress}
 use Rattle.transcript.specs.Progress.{Reached, reached}
 use Rattle.transcript.proofs.Whole.{nothing_written, piece-of, events-left, by-events}

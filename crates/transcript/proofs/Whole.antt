@@ -1,13 +1,13 @@
 -- A piece at the start of the buffer, all pieces together, and the whole transcript. Assumes nothing.
 use Prim.Native.Nat.{ℕ, suc, ◌+◌, ◌*◌, ◌-◌, ◌≤◌, ◌<◌}
 use mathlib.Core.Path.{◌≡◌, refl, sym, ap, ap₂, subst, ◌∙◌}
-use mathlib.Core.Bool.{Bool, true, false, cond, true≢false}
+use mathlib.Core.Bool.{true, false, cond, true≢false}
 use mathlib.Core.List.{List, [], ◌++◌, append-nil}
 use native.Mathlib.Nat.{zero-add}
 use native.Mathlib.Omega.{arith}
 use lib.ListN.{length, take, drop, take-append-drop}
 use lib.Seq.{length-take-le, take_at, drop_at}
-use borrow.Author.Tests.{lt-ltb, le-ltb, le-leb, lt-leb, ne_eqb}
+use borrow.Author.Tests.{le-ltb, le-leb, ne_eqb}
 use Rattle.printing.specs.Printing.{over, Wrote}
 use Rattle.printing.proofs.Placed.{from_start}
 use Rattle.moves.specs.declared.Totals.{Totals}

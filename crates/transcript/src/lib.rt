@@ -162,7 +162,10 @@ impl Progress {
 
     // The next piece, from the start of the buffer on, and how many bytes it has. A buffer shorter than `PIECE_ROOM` gets none.
     pub fn piece(&mut self, text: &[u8], out: &mut [u8]) -> usize
-        ensures { (n : ℕ) → Piece text.now (reached self.old n) out.old out.new (reached self.new result) }
+        ensures piece { Piece text.now (reached self.old 0) out.old out.new (reached self.new result) }
+
+        // whatever the piece before had, which no progress keeps
+        ensures after_any { (n : ℕ) → Piece text.now (reached self.old n) out.old out.new (reached self.new result) }
     {
         if out.len() < PIECE_ROOM || self.done {
             return 0;
