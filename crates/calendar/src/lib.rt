@@ -52,14 +52,16 @@ pub const SUNDAY: u32 = Weekday::Sunday as u32;
 // "1 ≤ x − w ≤ 7": for so many days after its own a warning serves.
 pub const WARNING_DAYS: u32 = 7;
 
-impl Weekday {
-    // 0 for Monday to 6 for Sunday.
-    pub fn number(self) -> u32
-        ensures { result ≡ weekday_number self }
-    {
-        self as u32
-    }
+// 0 for Monday to 6 for Sunday.
+impl From<Weekday> for u32 {
+    ghost from_gives = { λ w n. n ≡ weekday_number w };
 
+    fn from(weekday: Weekday) -> u32 {
+        weekday as u32
+    }
+}
+
+impl Weekday {
     pub fn is_weekend(self) -> bool
         ensures { result ≡ nat_le saturday (weekday_number self) }
     {
@@ -84,14 +86,6 @@ fn month_length(year: u32, month: u32) -> u32
         2 => if leap(year) { 29 } else { 28 },
         _ => 0,
     }
-}
-
-// Whether year, month and day are a date.
-#[tactic(auto, unfolding(crate::specs::Calendar::date_exists))]
-pub fn exists(year: u32, month: u32, day: u32) -> bool
-    ensures { result ≡ date_exists year month day }
-{
-    (1..=month_length(year, month)).contains(&day)
 }
 
 // The days of a common year before a month.
@@ -146,7 +140,7 @@ fn days_after(d: Date) -> u32
 fn is_date_until(d: Date, last: u32) -> bool
     ensures { result ≡ is_date_until last d }
 {
-    (FIRST_YEAR..=last).contains(&d.year) && exists(d.year, d.month, d.day)
+    (FIRST_YEAR..=last).contains(&d.year) && d.exists()
 }
 
 #[tactic(auto, unfolding(crate::specs::Calendar::is_in_reach))]
@@ -181,6 +175,14 @@ fn weekday_after(n: u32) -> Weekday
 }
 
 impl Date {
+    // Whether the calendar has it.
+    #[tactic(auto, unfolding(crate::specs::Calendar::date_exists))]
+    pub fn exists(self) -> bool
+        ensures { result ≡ date_exists self.year self.month self.day }
+    {
+        (1..=month_length(self.year, self.month)).contains(&self.day)
+    }
+
     // The day after.
     #[tactic(auto, using(crate::proofs::Laws::reached), unfolding(crate::specs::Calendar::next_of))]
     pub fn next(self) -> Date

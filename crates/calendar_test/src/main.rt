@@ -23,12 +23,12 @@ fn date(n: u32) -> Date {
 }
 
 fn weekday_number(w: Option<Weekday>) -> u32 {
-    w.map_or(NO_WEEKDAY, Weekday::number)
+    w.map_or(NO_WEEKDAY, u32::from)
 }
 
 fn exists(out: &mut impl Write, d: Date) -> io::Result<()> {
-    let is_date = calendar::exists(d.year, d.month, d.day) as u8;
-    let can_open = calendar::can_open(d) as u8;
+    let is_date = u8::from(d.exists());
+    let can_open = u8::from(calendar::can_open(d));
     write!(out, " {is_date} {can_open}")
 }
 

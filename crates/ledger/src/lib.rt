@@ -27,12 +27,12 @@ pub enum Refusal {
     Buffer,
 }
 
-impl Refusal {
-    // The table's number.
-    pub fn code(self) -> u8
-        ensures { result ≡ refusal_code self }
-    {
-        self as u8
+// The table's number.
+impl From<Refusal> for u8 {
+    ghost from_gives = { λ r n. n ≡ refusal_code r };
+
+    fn from(refusal: Refusal) -> u8 {
+        refusal as u8
     }
 }
 
@@ -42,7 +42,7 @@ pub fn code<T: Drop>(answer: Result<T, Refusal>) -> u8
 {
     match answer {
         Ok(_) => 0,
-        Err(refusal) => refusal.code(),
+        Err(refusal) => u8::from(refusal),
     }
 }
 
@@ -158,7 +158,7 @@ impl From<Result<Figures, Refusal>> for Summary {
                 missing: figures.average.is_none(),
             },
             Err(refusal) => Summary {
-                code: refusal.code(),
+                code: u8::from(refusal),
                 ..Summary::default()
             },
         }

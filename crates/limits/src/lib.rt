@@ -5,75 +5,70 @@
 ghost use Rattle.std.specs.Prelude.{◌≡◌, cond, ◌&&◌, leb};
 ghost use Rattle.calendar.specs.Calendar.{final_day};
 ghost use Rattle.terms.specs.Terms.{within};
-ghost use Rattle.ledger.specs.Event.{max_amount, max_wh, in_limits, is_charge_kind, is_mark_kind, is_plan_kind};
+ghost use Rattle.ledger.specs.Event.{max_amount, in_limits, is_charge_kind, is_mark_kind, is_plan_kind};
 ghost use Rattle.ledger.specs.Refusals.{code_of};
 
 use ledger::{Event, Refusal};
 
-// A refusal by 3 where a field is outside its limits.
-fn refuse_unless(within: bool) -> Result<(), Refusal>
-    ensures { code_of result ≡ cond within 0 3 }
+fn is_amount(amount: u32) -> bool
+    ensures { result ≡ within 1 max_amount amount }
 {
-    if within { Ok(()) } else { Err(Refusal::Limits) }
+    (1..=ledger::MAX_AMOUNT).contains(&amount)
 }
 
-fn check_amount(amount: u32) -> Result<(), Refusal>
-    ensures { code_of result ≡ cond (within 1 max_amount amount) 0 3 }
-{
-    refuse_unless((1..=ledger::MAX_AMOUNT).contains(&amount))
-}
-
-fn check_wh(wh: u32) -> Result<(), Refusal>
-    ensures { code_of result ≡ cond (leb wh max_wh) 0 3 }
-{
-    refuse_unless(wh <= ledger::MAX_WH)
-}
-
-fn check_charge(kind: u32, amount: u32) -> Result<(), Refusal>
-    ensures { code_of result ≡ cond (is_charge_kind kind && within 1 max_amount amount) 0 3 }
+// The kinds are an event's numbers, of which C hands in any: document 01 names the `match` on them with a range arm.
+fn is_charge(kind: u32, amount: u32) -> bool
+    ensures { result ≡ (is_charge_kind kind && within 1 max_amount amount) }
 {
     match kind {
-        1 | 2 | 3 | 4 | 5 => check_amount(amount),
-        0 | 6..=4294967295 => Err(Refusal::Limits),
+        1 | 2 | 3 | 4 | 5 => is_amount(amount),
+        0 | 6.. => false,
     }
 }
 
-fn check_days(day: u32, from: u32, to: u32) -> Result<(), Refusal>
-    ensures { code_of result ≡ cond (leb day from && (leb from to && leb to final_day)) 0 3 }
+fn are_days(day: u32, from: u32, to: u32) -> bool
+    ensures { result ≡ (leb day from && (leb from to && leb to final_day)) }
 {
-    refuse_unless(day <= from && from <= to && to <= calendar::FINAL_DAY)
+    day <= from && from <= to && to <= calendar::FINAL_DAY
 }
 
-fn check_mark(kind: u32, day: u32, from: u32, to: u32) -> Result<(), Refusal>
-    ensures { code_of result ≡ cond (is_mark_kind kind && (leb day from && (leb from to && leb to final_day))) 0 3 }
+fn is_mark(kind: u32, day: u32, from: u32, to: u32) -> bool
+    ensures { result ≡ (is_mark_kind kind && (leb day from && (leb from to && leb to final_day))) }
 {
     match kind {
-        1 | 2 | 3 => check_days(day, from, to),
-        0 | 4..=4294967295 => Err(Refusal::Limits),
+        1 | 2 | 3 => are_days(day, from, to),
+        0 | 4.. => false,
     }
 }
 
-fn check_plan(kind: u32) -> Result<(), Refusal>
-    ensures { code_of result ≡ cond (is_plan_kind kind) 0 3 }
+fn is_plan(kind: u32) -> bool
+    ensures { result ≡ is_plan_kind kind }
 {
     match kind {
-        1 | 2 => Ok(()),
-        0 | 3..=4294967295 => Err(Refusal::Limits),
+        1 | 2 => true,
+        0 | 3.. => false,
     }
 }
 
-// A refusal by 3 where the sort, or a field that it names, is outside its limits.
+// Whether the sort, and the fields that it names, are within their limits.
 #[tactic(auto, unfolding(ledger::specs::Event::in_limits))]
+fn in_limits(e: Event) -> bool
+    ensures { result ≡ in_limits e }
+{
+    match e.sort {
+        1 | 3 => is_amount(e.amount),
+        4 => is_charge(e.kind, e.amount),
+        5 | 6 => e.wh <= ledger::MAX_WH,
+        8 => is_mark(e.kind, e.day, e.from, e.to),
+        9 => is_plan(e.kind),
+        2 | 7 | 10 | 11 => true,
+        0 | 12.. => false,
+    }
+}
+
+// A refusal by 3 where they are not.
 pub fn check(e: Event) -> Result<(), Refusal>
     ensures { code_of result ≡ cond (in_limits e) 0 3 }
 {
-    match e.sort {
-        1 | 3 => check_amount(e.amount),
-        4 => check_charge(e.kind, e.amount),
-        5 | 6 => check_wh(e.wh),
-        8 => check_mark(e.kind, e.day, e.from, e.to),
-        9 => check_plan(e.kind),
-        2 | 7 | 10 | 11 => Ok(()),
-        0 | 12..=4294967295 => Err(Refusal::Limits),
-    }
+    if in_limits(e) { Ok(()) } else { Err(Refusal::Limits) }
 }

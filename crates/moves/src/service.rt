@@ -49,7 +49,7 @@ impl Checked {
             return s.credit < s.debit;
         }
         s.debit >= s.credit + REQUIRED_DEBT
-            && marks::weather_near(marks, self.weekday().number(), e.day)
+            && marks::weather_near(marks, u32::from(self.weekday()), e.day)
     }
 
     #[tactic(auto, using(crate::proofs::Early::early), unfolding(crate::specs::Moves::plan_of, crate::specs::Moves::deferring_of))]

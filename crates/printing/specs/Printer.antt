@@ -1,5 +1,5 @@
 -- What a printer's methods leave.
-use Rattle.std.specs.Prelude.{ℕ, ◌≡◌, List}
+use Rattle.std.specs.Prelude.{ℕ, ◌≡◌, ◌+◌, ◌≤◌, List, length}
 use Rattle.printing.specs.declared.Printer.{Printer}
 use Rattle.printing.specs.Printing.{Puts, Wrote}
 
@@ -12,3 +12,7 @@ pub record Prints (p : Printer) (bytes : List ℕ) (q : Printer) : Type 0 where
 pub record Writes (p : Printer) (bytes : List ℕ) (q : Printer) : Type 0 where
   pub same : q.out.ghost_name ≡ p.out.ghost_name
   pub wrote : Wrote p.out.now p.at bytes q.out.now q.at
+
+-- so many bytes have room
+abbrev pub HasRoom : Printer → ℕ → Type 0
+HasRoom p count = p.at + count ≤ length p.out.now

@@ -72,7 +72,7 @@ pub fn put_refusal(page: &mut Printer, refusal: Refusal)
     ensures short { length page.old.out.now < page.old.at + event_room → page.new ≡ page.old }
 {
     if page.out.len().saturating_sub(page.at) >= EVENT_ROOM {
-        put_terms(page, refusal.code());
+        put_terms(page, u8::from(refusal));
     }
 }
 
@@ -126,7 +126,7 @@ impl Progress {
                 let code = ledger::code(account::open(terms));
                 Progress::start(terms, text.len() - rest.len(), code)
             }
-            None => Progress::start(Terms::default(), 0, Refusal::Form.code()),
+            None => Progress::start(Terms::default(), 0, u8::from(Refusal::Form)),
         }
     }
 
