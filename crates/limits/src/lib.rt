@@ -70,5 +70,9 @@ fn in_limits(e: Event) -> bool
 pub fn check(e: Event) -> Result<(), Refusal>
     ensures { code_of result ≡ cond (in_limits e) 0 3 }
 {
-    if in_limits(e) { Ok(()) } else { Err(Refusal::Limits) }
+    if in_limits(e) {
+        Ok(())
+    } else {
+        Err(Refusal::Limits)
+    }
 }
