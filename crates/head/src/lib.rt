@@ -36,9 +36,9 @@ pub extern "C" fn prepay_statement(text: &[u8], out: &mut [u8]) -> usize
 pub extern "C" fn prepay_open(account: &mut Image, t: Terms) -> u8
     ensures { OpensImage (opened_of t) account.new result }
 {
-    let opened = image::open(t);
-    *account = opened.account;
-    code(opened.answer)
+    let (opened, answer) = image::open(t);
+    *account = opened;
+    code(answer)
 }
 
 // One event.

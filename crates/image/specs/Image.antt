@@ -132,7 +132,7 @@ unfoldable pub opened_of : Terms → ImageOpened
 opened_of t = record { image = image_of (fresh t); code = terms_code t }
 
 -- what `open` hands back
-abbrev pub opening_of : Image → Result ℕ Refusal → ImageOpened
+abbrev pub opening_of : Image → Result Unit Refusal → ImageOpened
 opening_of i answer = record { image = i; code = code_of answer }
 
 -- the image after an event, and the answer to it

@@ -4,7 +4,7 @@
 #![tactic(auto)]
 
 ghost use Rattle.std.specs.Prelude.{◌≡◌};
-ghost use Rattle.ledger.specs.Refusals.{value_of, summary_record};
+ghost use Rattle.ledger.specs.Refusals.{summary_record};
 ghost use Rattle.image.specs.Image.{is_day_image, day_image, day_of, is_payment_image, payment_image, payment_of};
 ghost use Rattle.image.specs.Image.{totals_image, totals_of, is_image, account_of, image_of, image_after};
 ghost use Rattle.image.specs.Image.{opening_of, opened_of, posting_of, posted_of, readings_of, summary_in, Inverse, CallsAgree};
@@ -13,7 +13,10 @@ use account::{Account, Posted};
 use ledger::{Event, Figures, Refusal};
 use marks::DayBytes;
 use moves::{Charges, Day, Payment, Totals, Usage};
+use std::array;
 use terms::Terms;
+
+// The types below are C's: kinds, and yes and no, are numbers there, of which C may hand in any.
 
 // A usage day: state 0 blank, 1 estimated, 2 metered. A blank day has 0 Wh and costs 0.
 #[repr(C)]
@@ -214,7 +217,8 @@ impl Image {
     }
 }
 
-// Of any other numbers a record that is no account: every event gets 1.
+// Of numbers that are no image a record that is no account, which every event gets 1 of: so the calls have an answer to any numbers, which a
+// `TryFrom` would leave to each of them.
 impl From<Image> for Account {
     ghost from_gives = { λ i a. a ≡ account_of i };
 
@@ -222,19 +226,14 @@ impl From<Image> for Account {
         if !image.is_image() {
             return Account::fresh(Terms::default());
         }
-        let marks = image.marks;
-        let warned = image.warned;
-        let charges = image.charges;
-        let days = image.days.map(|d| Day::from(d));
-        let payments = image.payments.map(|p| Payment::from(p));
         Account {
             terms: image.terms,
             totals: Totals::from(image.totals),
-            days,
-            marks,
-            warned,
-            payments,
-            charges,
+            days: array::from_fn(|i| Day::from(image.days[i])),
+            marks: image.marks,
+            warned: image.warned,
+            payments: array::from_fn(|i| Payment::from(image.payments[i])),
+            charges: image.charges,
         }
     }
 }
@@ -243,20 +242,15 @@ impl From<Account> for Image {
     ghost from_gives = { λ a i. i ≡ image_of a };
 
     fn from(account: Account) -> Image {
-        let marks = account.marks;
-        let warned = account.warned;
-        let charges = account.charges;
-        let days = account.days.map(|d| DayImage::from(d));
-        let payments = account.payments.map(|p| PaymentImage::from(p));
         Image {
             totals: TotalsImage::from(account.totals),
             terms: account.terms,
-            days,
-            marks,
-            warned,
-            payments,
+            days: array::from_fn(|i| DayImage::from(account.days[i])),
+            marks: account.marks,
+            warned: account.warned,
+            payments: array::from_fn(|i| PaymentImage::from(account.payments[i])),
             spare: 0,
-            charges,
+            charges: account.charges,
         }
     }
 }
@@ -281,15 +275,11 @@ pub fn calls_agree()
 // ---- the calls
 
 // The image of a fresh account of these terms. Where they are outside their limits it is refused by 1, and so is every event.
-pub fn open(t: Terms) -> Posted<Image>
-    ensures opened { opening_of result.account result.answer ≡ opened_of t }
-    ensures value { value_of result.answer ≡ 0 }
+pub fn open(t: Terms) -> (Image, Result<(), Refusal>)
+    ensures { opening_of result.0 result.1 ≡ opened_of t }
 {
-    let answer = t.is_valid().then_some(0).ok_or(Refusal::Terms);
-    Posted {
-        account: Image::from(Account::fresh(t)),
-        answer,
-    }
+    let answer = t.is_valid().then_some(()).ok_or(Refusal::Terms);
+    (Image::from(Account::fresh(t)), answer)
 }
 
 // One event: the image after it and the answer. A refusal hands the image back as it came in; 1 where the numbers are no image.
