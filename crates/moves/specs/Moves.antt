@@ -23,10 +23,11 @@ use Rattle.moves.specs.declared.Move.{Move}
 abbrev pub max_total : ℕ
 max_total = 1152921504606846976
 
+abbrev pub is_in_range : Totals → Bool
+is_in_range s = leb s.credit max_total && (leb s.debit max_total && (leb s.plan max_total && leb s.standing max_total))
+
 unfoldable pub is_account : Terms → Totals → Bool
-is_account t s =
-    eqb (terms_code t) 0
-    && (leb s.credit max_total && (leb s.debit max_total && (leb s.plan max_total && (leb s.standing max_total && leb s.count max_payments))))
+is_account t s = eqb (terms_code t) 0 && (is_in_range s && leb s.count max_payments)
 
 -- 1 where the record is no account, then 2, 3 or 4; else 0
 unfoldable pub early_code : Terms → Totals → Event → ℕ

@@ -1,16 +1,17 @@
 // Usage days: estimates and reads.
 ghost use Rattle.std.specs.Prelude.{◌≡◌};
-ghost use Rattle.moves.specs.Moves.{accepted, moved_of, estimate_of, read_of};
+ghost use Rattle.moves.specs.Moves.{estimate_of, read_of};
+ghost use Rattle.moves.specs.Sorts.{Gives};
 
 use super::guard::Checked;
 use super::{Day, Move, Totals, Usage};
 use ledger::Refusal;
 
-impl Checked {
+impl Checked<'_> {
     #[tactic(auto, using(crate::proofs::Early::early, crate::proofs::Early::estimate_cost), unfolding(crate::specs::Moves::estimate_of, crate::specs::Moves::estimated_of))]
     pub(crate) fn estimate(self) -> Result<Move, Refusal>
         requires { self.event.sort ≡ 5 }
-        ensures { moved_of (accepted self.before) result ≡ estimate_of self.terms (accepted self.before) self.event }
+        ensures { Gives self.entry result estimate_of }
     {
         let before = self.before;
         let e = self.event;
@@ -20,7 +21,7 @@ impl Checked {
         if before.day.usage != Usage::Blank {
             return Err(Refusal::UsageState);
         }
-        let cost = tariff::cost(e.wh, self.terms.price);
+        let cost = tariff::cost(e.wh, self.cells.terms.price);
         let s = before.totals.tallied(e.day);
         Ok(Move {
             value: cost,
@@ -42,7 +43,7 @@ impl Checked {
     #[tactic(auto, using(crate::proofs::Early::early, crate::proofs::Early::read_cost), unfolding(crate::specs::Moves::read_of, crate::specs::Moves::metered_of))]
     pub(crate) fn read(self) -> Result<Move, Refusal>
         requires { self.event.sort ≡ 6 }
-        ensures { moved_of (accepted self.before) result ≡ read_of self.terms (accepted self.before) self.event }
+        ensures { Gives self.entry result read_of }
     {
         let before = self.before;
         let e = self.event;
@@ -52,10 +53,10 @@ impl Checked {
         // the cost of the estimate that the read takes back
         let old = match before.day.usage {
             Usage::Blank => 0,
-            Usage::Estimated { cost, .. } => cost as u64,
+            Usage::Estimated { cost, .. } => u64::from(cost),
             Usage::Metered { .. } => return Err(Refusal::UsageState),
         };
-        let cost = tariff::cost(e.wh, self.terms.price);
+        let cost = tariff::cost(e.wh, self.cells.terms.price);
         let s = before.totals.tallied(e.day);
         Ok(Move {
             value: cost,

@@ -2,32 +2,34 @@
 ghost use Rattle.std.specs.Prelude.{◌≡◌, IfOk};
 ghost use Rattle.calendar.specs.Calendar.{weekday_number, month_on, weekday_on};
 ghost use Rattle.ledger.specs.Refusals.{code_of};
-ghost use Rattle.moves.specs.Moves.{early_code};
+ghost use Rattle.moves.specs.Moves.{early_code, accepted, cells_before};
 
-use super::{Move, is_account};
-use calendar::{FINAL_DAY, Weekday};
-use ledger::{Event, MAX_EVENTS, Refusal};
-use terms::Terms;
+use super::{Cells, Move, is_account};
+use calendar::{DAY_COUNT, FINAL_DAY, Weekday};
+use ledger::{Event, MAX_EVENTS, MAX_PAYMENTS, Refusal};
 
-// An event that passed the checks, with the account's terms and the cells before it. Its ghost field is what the sorts' functions rest on: the
-// fields are within their limits, and no sum wraps.
+// An event that passed the checks, with the account's cells, and the move that leaves them as they are. Its ghost field is what the sorts'
+// functions rest on: the fields are within their limits, and no sum wraps.
 #[derive(Clone, Copy)]
-pub(crate) struct Checked {
-    pub terms: Terms,
+pub(crate) struct Checked<'a> {
+    pub cells: Cells<'a>,
     pub before: Move,
     pub event: Event,
-    ghost passed: { early_code terms before.totals event ≡ 0 },
+    ghost passed: { early_code cells.terms before.totals event ≡ 0 },
 }
 
-impl Checked {
+impl<'a> Checked<'a> {
     // Refused by 1 where the record is no account, then by 2, 3 or 4.
-    #[tactic(auto, unfolding(crate::specs::Moves::early_code))]
-    pub(crate) fn new(terms: Terms, before: Move, event: Event) -> Result<Checked, Refusal>
-        ensures code { code_of result ≡ early_code terms before.totals event }
-        ensures same { IfOk result (λ c. (c.terms ≡ terms) × (c.before ≡ before) × (c.event ≡ event)) }
+    #[tactic(auto, unfolding(crate::specs::Moves::early_code, crate::specs::Moves::cells_before))]
+    pub(crate) fn new(cells: Cells<'a>, event: Event) -> Result<Checked<'a>, Refusal>
+        ensures code { let c = cells.entry in code_of result ≡ early_code c.terms c.totals event }
+        ensures same { let c = cells.entry in
+            IfOk result (λ k. (k.cells ≡ c)
+            × (accepted k.before ≡ cells_before c.totals c.payment c.day c.charges.now c.warned.now event)
+            × (k.event ≡ event)) }
     {
-        let s = before.totals;
-        if !is_account(terms, s) {
+        let s = cells.totals;
+        if !is_account(cells.terms, s) {
             return Err(Refusal::Terms);
         }
         if event.day < s.last || event.day > FINAL_DAY {
@@ -37,8 +39,19 @@ impl Checked {
         if s.events >= MAX_EVENTS {
             return Err(Refusal::Full);
         }
+        let before = Move {
+            value: 0,
+            totals: s,
+            number: event.number % MAX_PAYMENTS,
+            payment: cells.payment,
+            day: cells.day,
+            place: 0,
+            sum: cells.charges[0],
+            warned: cells.warned[(event.day % DAY_COUNT) as usize],
+            mark: None,
+        };
         Ok(Checked {
-            terms,
+            cells,
             before,
             event,
         })
@@ -47,18 +60,18 @@ impl Checked {
     // The weekday of the event's day.
     #[tactic(auto, using(crate::proofs::Early::weekday_is))]
     pub(crate) fn weekday(self) -> Weekday
-        ensures { weekday_number result ≡ weekday_on self.terms.opened self.event.day }
+        ensures { let c = self.entry in weekday_number result ≡ weekday_on c.cells.terms.opened c.event.day }
     {
-        let opened = self.terms.opened;
+        let opened = self.cells.terms.opened;
         calendar::weekday_of(opened, self.event.day).unwrap()
     }
 
     // The month of the event's day.
     #[tactic(auto, using(crate::proofs::Early::month_is))]
     pub(crate) fn month(self) -> u32
-        ensures { result ≡ month_on self.terms.opened self.event.day }
+        ensures { let c = self.entry in result ≡ month_on c.cells.terms.opened c.event.day }
     {
-        let opened = self.terms.opened;
+        let opened = self.cells.terms.opened;
         calendar::month_of(opened, self.event.day).unwrap()
     }
 }

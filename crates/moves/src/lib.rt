@@ -1,12 +1,13 @@
 // What one event does to the totals and to the cells of the record that it may change, by its sort, and what it is answered.
-// It uses the calendar, the tariff, the marks, the terms, the limits and the ledger's event. Its promises cite specs/Moves.antt.
+// It uses the calendar, the tariff, the marks, the terms, the limits and the ledger's event. Its promises cite specs/Moves.antt and
+// specs/Sorts.antt. Where a cost or a part is known to fit 32 bits, `as` narrows it; a place is a `usize` by `as`, which has no `From`.
 #![tactic(auto)]
 
 ghost use Rattle.std.specs.Prelude.{◌≡◌, ◌<◌};
 ghost use Rattle.ledger.specs.Rules.{max_events};
-ghost use Rattle.moves.specs.Moves.{is_account, tallied, accepted, moved_of, by_sort, IsMove};
+ghost use Rattle.moves.specs.Moves.{is_in_range, is_account, tallied, by_sort, IsMove};
+ghost use Rattle.moves.specs.Sorts.{Gives};
 
-use calendar::DAY_COUNT;
 use guard::Checked;
 use ledger::{Event, MAX_PAYMENTS, Refusal};
 pub use mark::Mark;
@@ -62,6 +63,16 @@ pub struct Totals {
 }
 
 impl Totals {
+    // Whether each sum is one that an account's can come to.
+    pub fn is_in_range(self) -> bool
+        ensures { result ≡ is_in_range self }
+    {
+        self.credit <= MAX_TOTAL
+            && self.debit <= MAX_TOTAL
+            && self.plan <= MAX_TOTAL
+            && self.standing <= MAX_TOTAL
+    }
+
     // With one more event, of the day.
     fn tallied(self, day: u32) -> Totals
         requires { self.events < max_events }
@@ -75,7 +86,8 @@ impl Totals {
     }
 }
 
-// What an accepted event is answered, the totals after it, and the one cell of each array that it may change.
+// What an accepted event is answered, the totals after it, and the one cell of each array that it may change. A cell that it leaves stands here as
+// it was, and is written back: one write each, without a branch.
 #[derive(Clone, Copy, Debug, PartialEq, Eq)]
 pub struct Move {
     pub value: u64,
@@ -88,7 +100,7 @@ pub struct Move {
     // the charges summed at `place`
     pub place: u32,
     pub sum: u64,
-    // the warning byte of the event's day
+    // the warning byte of the event's day, 0 or 1: C's record has a byte a day
     pub warned: u8,
     pub mark: Option<Mark>,
 }
@@ -101,17 +113,12 @@ pub type Charges = [u64; CHARGE_PLACES];
 // No account's total passes 2 ^ 60.
 pub const MAX_TOTAL: u64 = 1152921504606846976;
 
-// Whether the terms are within their limits and the totals within any account's reach, so that no sum of a step wraps.
+// Whether the terms and the totals can be an account's: then no sum of a step wraps.
 #[tactic(auto, unfolding(crate::specs::Moves::is_account, terms::specs::Terms::terms_code))]
 pub fn is_account(t: Terms, s: Totals) -> bool
     ensures { result ≡ is_account t s }
 {
-    t.is_valid()
-        && s.credit <= MAX_TOTAL
-        && s.debit <= MAX_TOTAL
-        && s.plan <= MAX_TOTAL
-        && s.standing <= MAX_TOTAL
-        && s.count <= MAX_PAYMENTS
+    t.is_valid() && s.is_in_range() && s.count <= MAX_PAYMENTS
 }
 
 // What of an account an event may read: the terms, the totals, the payment at its number, its usage day, and the charges, marks and warnings.
@@ -126,27 +133,26 @@ pub struct Cells<'a> {
     pub warned: &'a DayBytes,
 }
 
-impl Checked {
-    // The move of the event by its sort.
+impl Checked<'_> {
+    // The move of the event by its sort: a match on the number with a range arm, as document 01 names it, since C hands in any number.
     #[tactic(auto, unfolding(crate::specs::Moves::by_sort))]
-    fn by_sort(self, cells: Cells) -> Result<Move, Refusal>
-        ensures { let c = cells.entry in
-            moved_of (accepted self.before) result
-            ≡ by_sort self.terms (accepted self.before) c.charges.now c.marks.now c.warned.now self.event self.event.sort }
+    fn by_sort(self) -> Result<Move, Refusal>
+        ensures { let c = self.entry.cells in
+            Gives self.entry result (λ t m e. by_sort t m c.charges.now c.marks.now c.warned.now e e.sort) }
     {
         match self.event.sort {
             1 => self.pay(),
             2 => self.reverse(),
             3 => self.credit(),
-            4 => self.charge(cells.charges),
+            4 => self.charge(),
             5 => self.estimate(),
             6 => self.read(),
             7 => self.warn(),
             8 => self.mark(),
-            9 => self.plan(cells.marks),
-            10 => self.disconnect(cells.marks, cells.warned),
+            9 => self.plan(),
+            10 => self.disconnect(),
             11 => self.connect(),
-            0 | 12..=4294967295 => Err(Refusal::Limits),
+            0 | 12.. => Err(Refusal::Limits),
         }
     }
 }
@@ -158,17 +164,6 @@ pub fn move_of(cells: Cells, e: Event) -> Result<Move, Refusal>
     ensures { let c = cells.entry in
         IsMove c.terms c.totals c.payment c.day c.charges.now c.marks.now c.warned.now e result }
 {
-    let before = Move {
-        value: 0,
-        totals: cells.totals,
-        number: e.number % MAX_PAYMENTS,
-        payment: cells.payment,
-        day: cells.day,
-        place: 0,
-        sum: cells.charges[0],
-        warned: cells.warned[(e.day % DAY_COUNT) as usize],
-        mark: None,
-    };
-    let checked = Checked::new(cells.terms, before, e)?;
-    checked.by_sort(cells)
+    let checked = Checked::new(cells, e)?;
+    checked.by_sort()
 }

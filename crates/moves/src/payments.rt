@@ -1,7 +1,8 @@
 // Payments, reversals and credits.
 ghost use Rattle.std.specs.Prelude.{◌≡◌, ◌*◌, ◌/◌, ◌≤◌, min};
 ghost use Rattle.terms.specs.Terms.{max_share};
-ghost use Rattle.moves.specs.Moves.{accepted, moved_of, pay_of, reverse_of, credit_of};
+ghost use Rattle.moves.specs.Moves.{pay_of, reverse_of, credit_of};
+ghost use Rattle.moves.specs.Sorts.{Gives};
 
 use super::guard::Checked;
 use super::{Move, Payment, Totals};
@@ -12,13 +13,13 @@ fn plan_part(plan: u64, amount: u32, share: u32) -> u32
     requires { share ≤ max_share }
     ensures { result ≡ min plan (amount * share / 100) }
 {
-    plan.min(amount as u64 * share as u64 / 100) as u32
+    plan.min(u64::from(amount) * u64::from(share) / 100) as u32
 }
 
-impl Checked {
+impl Checked<'_> {
     #[tactic(auto, using(crate::proofs::Early::early), unfolding(crate::specs::Moves::pay_of))]
     pub(crate) fn pay(self) -> Result<Move, Refusal>
-        ensures { moved_of (accepted self.before) result ≡ pay_of self.terms (accepted self.before) self.event }
+        ensures { Gives self.entry result pay_of }
     {
         let before = self.before;
         let e = self.event;
@@ -27,12 +28,12 @@ impl Checked {
             return Err(Refusal::Payments);
         }
         let s = before.totals.tallied(e.day);
-        let part = plan_part(s.plan, e.amount, self.terms.share);
+        let part = plan_part(s.plan, e.amount, self.cells.terms.share);
         Ok(Move {
-            value: number as u64,
+            value: u64::from(number),
             totals: Totals {
-                credit: s.credit + (e.amount - part) as u64,
-                plan: s.plan - part as u64,
+                credit: s.credit + u64::from(e.amount - part),
+                plan: s.plan - u64::from(part),
                 count: number + 1,
                 ..s
             },
@@ -49,7 +50,7 @@ impl Checked {
 
     #[tactic(auto, using(crate::proofs::Early::early), unfolding(crate::specs::Moves::reverse_of))]
     pub(crate) fn reverse(self) -> Result<Move, Refusal>
-        ensures { moved_of (accepted self.before) result ≡ reverse_of self.terms (accepted self.before) self.event }
+        ensures { Gives self.entry result reverse_of }
     {
         let before = self.before;
         let e = self.event;
@@ -61,8 +62,8 @@ impl Checked {
         Ok(Move {
             value: 0,
             totals: Totals {
-                debit: s.debit + payment.amount.saturating_sub(payment.part) as u64,
-                plan: s.plan + payment.part as u64,
+                debit: s.debit + u64::from(payment.amount.saturating_sub(payment.part)),
+                plan: s.plan + u64::from(payment.part),
                 ..s
             },
             payment: Payment {
@@ -75,14 +76,14 @@ impl Checked {
 
     #[tactic(auto, using(crate::proofs::Early::early), unfolding(crate::specs::Moves::credit_of))]
     pub(crate) fn credit(self) -> Result<Move, Refusal>
-        ensures { moved_of (accepted self.before) result ≡ credit_of self.terms (accepted self.before) self.event }
+        ensures { Gives self.entry result credit_of }
     {
         let e = self.event;
         let s = self.before.totals.tallied(e.day);
         Ok(Move {
             value: 0,
             totals: Totals {
-                credit: s.credit + e.amount as u64,
+                credit: s.credit + u64::from(e.amount),
                 ..s
             },
             ..self.before

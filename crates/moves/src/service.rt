@@ -1,16 +1,16 @@
 // Warnings, marks, plans, disconnects and connects.
-ghost use Rattle.std.specs.Prelude.{◌≡◌};
-ghost use Rattle.moves.specs.Moves.{accepted, moved_of, warn_of, mark_of, plan_condition_met, plan_of, served_of, disconnect_of, connect_of};
+ghost use Rattle.std.specs.Prelude.{◌≡◌, Ok};
+ghost use Rattle.moves.specs.Moves.{warn_of, mark_of, plan_condition_met, plan_of, served_of, disconnect_of, connect_of};
+ghost use Rattle.moves.specs.Sorts.{Gives};
 
 use super::guard::Checked;
 use super::{Mark, Move, Totals};
 use ledger::{REQUIRED_DEBT, Refusal};
-use marks::DayBytes;
 
-impl Checked {
+impl Checked<'_> {
     #[tactic(auto, using(crate::proofs::Early::early), unfolding(crate::specs::Moves::warn_of))]
     pub(crate) fn warn(self) -> Result<Move, Refusal>
-        ensures { moved_of (accepted self.before) result ≡ warn_of self.terms (accepted self.before) self.event }
+        ensures { Gives self.entry result warn_of }
     {
         Ok(Move {
             value: 0,
@@ -23,7 +23,7 @@ impl Checked {
     #[tactic(auto, using(crate::proofs::Early::early, crate::proofs::Early::mark_order), unfolding(crate::specs::Moves::mark_of))]
     pub(crate) fn mark(self) -> Result<Move, Refusal>
         requires { self.event.sort ≡ 8 }
-        ensures { moved_of (accepted self.before) result ≡ mark_of self.terms (accepted self.before) self.event }
+        ensures { Gives self.entry result mark_of }
     {
         let e = self.event;
         Ok(Move {
@@ -40,8 +40,8 @@ impl Checked {
 
     // Whether the plan kind's condition holds.
     #[tactic(auto, using(crate::proofs::Early::early))]
-    fn may_defer(self, marks: &DayBytes) -> bool
-        ensures { result ≡ plan_condition_met self.terms self.before.totals marks.now self.event }
+    fn may_defer(self) -> bool
+        ensures { let c = self.entry in result ≡ plan_condition_met c.cells.terms c.before.totals c.cells.marks.now c.event }
     {
         let s = self.before.totals;
         let e = self.event;
@@ -49,24 +49,24 @@ impl Checked {
             return s.credit < s.debit;
         }
         s.debit >= s.credit + REQUIRED_DEBT
-            && marks::weather_near(marks, u32::from(self.weekday()), e.day)
+            && marks::weather_near(self.cells.marks, u32::from(self.weekday()), e.day)
     }
 
     #[tactic(auto, using(crate::proofs::Early::early), unfolding(crate::specs::Moves::plan_of, crate::specs::Moves::deferring_of))]
-    pub(crate) fn plan(self, marks: &DayBytes) -> Result<Move, Refusal>
-        ensures { moved_of (accepted self.before) result ≡ plan_of self.terms (accepted self.before) marks.now self.event }
+    pub(crate) fn plan(self) -> Result<Move, Refusal>
+        ensures { Gives self.entry result (λ t m e. plan_of t m self.entry.cells.marks.now e) }
     {
         let before = self.before;
-        let t = self.terms;
+        let t = self.cells.terms;
         let e = self.event;
-        if !self.may_defer(marks) {
+        if !self.may_defer() {
             return Err(Refusal::PlanCondition);
         }
         if before.totals.plan > 0 {
             return Err(Refusal::PlanUnpaid);
         }
         let s = before.totals.tallied(e.day);
-        let deferred = t.connect as u64 + s.debit - s.credit;
+        let deferred = u64::from(t.connect) + s.debit - s.credit;
         Ok(Move {
             value: deferred,
             totals: Totals {
@@ -81,7 +81,7 @@ impl Checked {
     // The move of an order that is carried out: service on or off.
     #[tactic(auto, using(crate::proofs::Early::early), unfolding(crate::specs::Moves::served_of))]
     fn served(self, on: bool) -> Move
-        ensures { accepted result ≡ served_of self.terms (accepted self.before) self.event on }
+        ensures { Gives self.entry (Ok result) (λ t m e. served_of t m e on) }
     {
         Move {
             value: 0,
@@ -94,22 +94,22 @@ impl Checked {
     }
 
     #[tactic(auto, using(crate::proofs::Early::early), unfolding(crate::specs::Moves::disconnect_of))]
-    pub(crate) fn disconnect(self, marks: &DayBytes, warned: &DayBytes) -> Result<Move, Refusal>
-        ensures { moved_of (accepted self.before) result ≡ disconnect_of self.terms (accepted self.before) marks.now warned.now self.event }
+    pub(crate) fn disconnect(self) -> Result<Move, Refusal>
+        ensures { let c = self.entry.cells in Gives self.entry result (λ t m e. disconnect_of t m c.marks.now c.warned.now e) }
     {
-        let t = self.terms;
+        let t = self.cells.terms;
         let s = self.before.totals;
         let day = self.event.day;
         if !s.on {
             return Err(Refusal::Service);
         }
-        if s.credit >= s.debit + t.cutoff as u64 {
+        if s.credit >= s.debit + u64::from(t.cutoff) {
             return Err(Refusal::Balance);
         }
-        if marks::latest(warned, day).is_none() {
+        if marks::latest(self.cells.warned, day).is_none() {
             return Err(Refusal::Warning);
         }
-        if self.weekday().is_weekend() || marks::barring(marks, day) {
+        if self.weekday().is_weekend() || marks::barring(self.cells.marks, day) {
             return Err(Refusal::Barred);
         }
         Ok(self.served(false))
@@ -117,13 +117,13 @@ impl Checked {
 
     #[tactic(auto, using(crate::proofs::Early::early), unfolding(crate::specs::Moves::connect_of))]
     pub(crate) fn connect(self) -> Result<Move, Refusal>
-        ensures { moved_of (accepted self.before) result ≡ connect_of self.terms (accepted self.before) self.event }
+        ensures { Gives self.entry result connect_of }
     {
         let s = self.before.totals;
         if s.on {
             return Err(Refusal::Service);
         }
-        if s.credit < s.debit + self.terms.connect as u64 {
+        if s.credit < s.debit + u64::from(self.cells.terms.connect) {
             return Err(Refusal::Balance);
         }
         Ok(self.served(true))
