@@ -8,7 +8,7 @@ ghost use Rattle.printing.specs.Printer.{Prints};
 
 use itoa::{Buffer, Integer};
 
-// A lent buffer, and the place in it that is printed to next.
+// A lent buffer, and the place in it that is printed to next. It is made by its literal, which a `new` would have to promise field by field.
 #[derive(Drop)]
 pub struct Printer<'a> {
     pub out: &'a mut [u8],
@@ -28,8 +28,12 @@ impl Printer<'_> {
         ensures { Prints self.old bytes.now self.new }
     {
         if self.has_room(bytes.len()) {
+            // std's `copy_from_slice` calls memmove, and C's head.h names memcpy and memset alone; a `zip` gives the proof lengths only.
             let end = self.at + bytes.len();
-            self.out[self.at..end].copy_from_slice(bytes);
+            let part = &mut self.out[self.at..end];
+            for (i, byte) in bytes.iter().enumerate() {
+                part[i] = *byte;
+            }
             self.at = end;
         }
     }
@@ -46,6 +50,7 @@ impl Printer<'_> {
         }
     }
 
+    // This and the next are the generic one under the paper's `decimal` and `signed`: the generic one's promise is in the kit's `I.text`.
     pub fn put_field(&mut self, word: &[u8], n: u64)
         ensures { Prints self.old (word.now ++ decimal n) self.new }
     {
