@@ -3,7 +3,6 @@ use mathlib.Core.Path.{◌≡◌, refl, ap, ◌∙◌}
 use Prim.Native.Nat.{ℕ}
 use native.Mathlib.Nat.{mod-lt}
 use native.Mathlib.Omega.{arith}
-use lib.ListN.{get_or, set}
 use lib.Seq.{set-get_or}
 use lib.Dec.{eqb}
 use borrow.Author.Tests.{eqb-false}
@@ -16,27 +15,12 @@ use Rattle.account.specs.Record.{blank_day, no_payment}
 use Rattle.account.specs.Step.{number_at, usage_at, day_at, cells_of, with_cells, step_of}
 use Rattle.account.specs.declared.Account.{Account}
 
+-- no mark, set
+pub marks-left : (a : Account) → marked a.marks 0 1 0 ≡ a.marks
+unfolding marked mark_range
+marks-left a = refl
+
 module _ (a : Account) (e : Event) where
-  -- ---- a cell as it is, written back
-
-  pub days-left : set a.days (usage_at e) (get_or a.days (usage_at e) blank_day) ≡ a.days
-  days-left = set-get_or a.days (usage_at e) blank_day
-
-  pub warned-left : set a.warned (day_at e) (get_or a.warned (day_at e) 0) ≡ a.warned
-  warned-left = set-get_or a.warned (day_at e) 0
-
-  pub payments-left : set a.payments (number_at e) (get_or a.payments (number_at e) no_payment) ≡ a.payments
-  payments-left = set-get_or a.payments (number_at e) no_payment
-
-  pub charges-left : set a.charges 0 (get_or a.charges 0 0) ≡ a.charges
-  charges-left = set-get_or a.charges 0 0
-
-  pub marks-left : marked a.marks 0 1 0 ≡ a.marks
-  unfolding marked mark_range
-  marks-left = refl
-
-  -- ---- the move of the event
-
   abbrev m : Moved
   m = move_of a.terms (cells_of a e) a.charges a.marks a.warned e
 
@@ -44,9 +28,18 @@ module _ (a : Account) (e : Event) where
   unfolding cells_before
   sound-is = sound _ _ _ _ _ _ (mod-lt e.number (omega arith), omega arith)
 
+  -- every cell as it is, written back
   left : (k : ℕ) → with_cells a e (refusing (cells_of a e) k) ≡ a
   unfolding cells_before
-  left k = λ i. record { terms = a.terms; totals = a.totals; days = days-left i; marks = marks-left i; warned = warned-left i; payments = payments-left i; charges = charges-left i }
+  left k = λ i. record {
+    terms = a.terms;
+    totals = a.totals;
+    days = set-get_or a.days (usage_at e) blank_day i;
+    marks = marks-left a i;
+    warned = set-get_or a.warned (day_at e) 0 i;
+    payments = set-get_or a.payments (number_at e) no_payment i;
+    charges = set-get_or a.charges 0 0 i;
+  }
 
   -- where it is refused, writing it back changes nothing: so it may be written back whatever its code
   pub written-always : record { account = with_cells a e m; code = m.code; value = m.value } ≡ step_of a e

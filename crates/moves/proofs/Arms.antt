@@ -83,7 +83,7 @@ module _ (t : Terms) (m : Moved) (charges marks warned : List ℕ) (e : Event) (
   yes c n p = taken c (rw n h.0) (rw p h.1)
 
   charge-place : Early t m.totals e → e.sort ≡ 4 → charge_place t e < 75
-  charge-place k s = let f = charge-limits e s k.limits in omega (arith, month-on t m.totals e k, f.kind.least, f.kind.most)
+  charge-place k s = let f = charge-limits e s k.passed.limits in omega (arith, month-on t m.totals e k, f.kind.least, f.kind.most)
 
   by-sorts : Early t m.totals e → Sound m (by_sort t m charges marks warned e e.sort)
   unfolding pay_of reverse_of credit_of charge_of estimate_of estimated_of read_of metered_of warn_of mark_of plan_of deferring_of served_of disconnect_of connect_of

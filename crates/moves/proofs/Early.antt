@@ -34,48 +34,34 @@ unfolding is_account
 in_reach t s h = grind (arith, nat_tests)
 
 -- what the limits of the terms ask
-record Limited (t : Terms) : Type 0 where
-  opened : opens t.opened ≡ true
-  price : t.price ≤ 99999
-  connect : t.connect ≤ 7500
-  cutoff : t.cutoff ≤ 1000
-  order : t.cutoff ≤ t.connect
-  share : t.share ≤ 50
-
-limited : (t : Terms) → valid_terms t ≡ true → Limited t
-unfolding valid_terms
-limited t h = grind (arith, nat_tests)
-
--- what the four checks ask
-record Passed (t : Terms) (s : Totals) (e : Event) : Type 0 where
-  account : is_account t s ≡ true
-  last : s.last ≤ e.day
-  day : e.day ≤ 399
-  limits : in_limits e ≡ true
-  room : s.events < 4096
-
-passed : (t : Terms) (s : Totals) (e : Event) → early_code t s e ≡ 0 → Passed t s e
-unfolding early_code
-passed t s e h = grind (arith, nat_tests)
-
-pub record Early (t : Terms) (s : Totals) (e : Event) : Type 0 where
-  pub terms : terms_code t ≡ 0
-  pub valid : valid_terms t ≡ true
+pub record Limited (t : Terms) : Type 0 where
   pub opened : opens t.opened ≡ true
   pub price : t.price ≤ 99999
   pub connect : t.connect ≤ 7500
   pub cutoff : t.cutoff ≤ 1000
   pub order : t.cutoff ≤ t.connect
   pub share : t.share ≤ 50
-  pub credit : s.credit ≤ 1152921504606846976
-  pub debit : s.debit ≤ 1152921504606846976
-  pub plan : s.plan ≤ 1152921504606846976
-  pub standing : s.standing ≤ 1152921504606846976
-  pub count : s.count ≤ 128
+
+limited : (t : Terms) → valid_terms t ≡ true → Limited t
+unfolding valid_terms
+limited t h = grind (arith, nat_tests)
+
+-- what the four checks ask
+pub record Passed (t : Terms) (s : Totals) (e : Event) : Type 0 where
+  pub account : is_account t s ≡ true
   pub last : s.last ≤ e.day
   pub day : e.day ≤ 399
   pub limits : in_limits e ≡ true
   pub room : s.events < 4096
+
+passed : (t : Terms) (s : Totals) (e : Event) → early_code t s e ≡ 0 → Passed t s e
+unfolding early_code
+passed t s e h = grind (arith, nat_tests)
+
+pub record Early (t : Terms) (s : Totals) (e : Event) : Type 0 where
+  pub passed : Passed t s e
+  pub reach : InReach t s
+  pub terms : Limited t
 
 valid : (t : Terms) → terms_code t ≡ 0 → valid_terms t ≡ true
 unfolding terms_code
@@ -85,31 +71,11 @@ pub early : (t : Terms) (s : Totals) (e : Event) → early_code t s e ≡ 0 → 
 early t s e h =
     let p = passed t s e h in
     let r = in_reach t s p.account in
-    let v = valid t r.terms in
-    let l = limited t v in
-    record {
-      terms = r.terms;
-      valid = v;
-      opened = l.opened;
-      price = l.price;
-      connect = l.connect;
-      cutoff = l.cutoff;
-      order = l.order;
-      share = l.share;
-      credit = r.credit;
-      debit = r.debit;
-      plan = r.plan;
-      standing = r.standing;
-      count = r.count;
-      last = p.last;
-      day = p.day;
-      limits = p.limits;
-      room = p.room;
-    }
+    record { passed = p; reach = r; terms = limited t (valid t r.terms) }
 
 -- the event's day is one of the account's, in one of months 0 to 14
 pub is-day : (t : Terms) (s : Totals) (e : Event) → Early t s e → is_day t.opened e.day ≡ true
-is-day t s e k = simp (k.opened, le-leb e.day 399 k.day)
+is-day t s e k = simp (k.terms.opened, le-leb e.day 399 k.passed.day)
 
 pub month-on : (t : Terms) (s : Totals) (e : Event) → Early t s e → month_on t.opened e.day ≤ 14
 month-on t s e k = let h = is-day t s e k in rw h (month-limit t.opened e.day h)
@@ -151,7 +117,7 @@ usage-limits e s h = grind (arith, nat_tests)
 
 -- the cost of a usage day, for an estimate and for a read
 pub cost-on : (t : Terms) (s : Totals) (e : Event) → Early t s e → (e.sort ≡ 5) ⊎ (e.sort ≡ 6) → cost_of e.wh t.price ≤ 9999899
-cost-on t s e k h = cost-limit e.wh t.price (usage-limits e h k.limits) k.price
+cost-on t s e k h = cost-limit e.wh t.price (usage-limits e h k.passed.limits) k.terms.price
 
 pub record MarkLimits (e : Event) : Type 0 where
   pub kind : Between 1 3 e.kind
@@ -173,11 +139,11 @@ pub record ChargeBounds (t : Terms) (e : Event) : Type 0 where
 pub charge_bounds : (t : Terms) (s : Totals) (e : Event) → early_code t s e ≡ 0 → e.sort ≡ 4 → ChargeBounds t e
 charge_bounds t s e h k =
     let a = early t s e h in
-    let f = charge-limits e k a.limits in
+    let f = charge-limits e k a.passed.limits in
     record { month = month-on t s e a; least = f.kind.least; most = f.kind.most }
 
 pub mark_order : (t : Terms) (s : Totals) (e : Event) → early_code t s e ≡ 0 → e.sort ≡ 8 → e.from ≤ e.to
-mark_order t s e h k = (mark-limits e k (early t s e h).limits).from
+mark_order t s e h k = (mark-limits e k (early t s e h).passed.limits).from
 
 pub estimate_cost : (t : Terms) (s : Totals) (e : Event) → early_code t s e ≡ 0 → e.sort ≡ 5 → cost_of e.wh t.price ≤ 9999899
 estimate_cost t s e h k = cost-on t s e (early t s e h) (inl k)

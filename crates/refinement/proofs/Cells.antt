@@ -5,6 +5,7 @@ use native.Mathlib.Omega.{arith}
 use mathlib.Core.Path.{◌≡◌, refl, ap, ◌∙◌, sym, subst}
 use mathlib.Core.Bool.{Bool, true, false, cond, ◌||◌}
 use lib.ListN.{get_or, length-set}
+use lib.Seq.{set-get_or}
 use lib.Dec.{eqb}
 use lib.IntN.{pos, ◌-ℤ◌}
 use borrow.Author.Tests.{eqb-true, leb-false}
@@ -21,9 +22,9 @@ use Rattle.ledger.proofs.Cases.{decide}
 use Rattle.moves.specs.Moves.{Moved, cells_before, move, totals}
 use Rattle.moves.specs.declared.Totals.{Totals}
 use Rattle.account.specs.Record.{blank_day, no_payment}
-use Rattle.account.specs.Step.{cells_of, with_cells}
+use Rattle.account.specs.Step.{number_at, usage_at, day_at, cells_of, with_cells}
 use Rattle.account.specs.declared.Account.{Account}
-use Rattle.account.proofs.Written.{days-left, warned-left, payments-left, charges-left, marks-left}
+use Rattle.account.proofs.Written.{marks-left}
 use Rattle.refinement.specs.Agree.{Agree, recorded_usage, recorded_payment, recorded_marks, warned_on}
 use Rattle.refinement.proofs.Fields.{payments-same, payments-one}
 use Rattle.refinement.proofs.Keeps.{amounts-keep, charged-keep, held-keep, payments-stay, days-stay, marks_stay, warned-stay, charges-stay}
@@ -94,27 +95,27 @@ module _ (a : Account) (l : Ledger) (e : Event) (g : Agree a.terms a l) (s : Inv
   payments-law = decide (eqb k 1) (λ y. own 1 y) (λ f. decide (eqb k 2) (λ y. own 2 y) (λ f'.
       let number = simp (f, f') at (ap (λ (y : Moved). y.number) w) in
       let payment = simp (f, f') at (ap (λ (y : Moved). y.payment) w) in
-      rw (number, payment, payments-left a e) (payments-stay t a e x.part l.list g.kept (sort-is 1 f) (sort-is 2 f'))))
+      rw (number, payment, set-get_or a.payments (number_at e) no_payment) (payments-stay t a e x.part l.list g.kept (sort-is 1 f) (sort-is 2 f'))))
 
   days-law : (u : ℕ) → u < 400 → (get_or b.days u blank_day).usage ≡ recorded_usage (usage_day t after u)
   unfolding cells_before
   days-law = decide (eqb k 5) (λ y. (own 5 y).0) (λ f. decide (eqb k 6) (λ y. (own 6 y).0) (λ f'.
-      rw (simp (f, f') at (ap (λ (y : Moved). y.day) w), days-left a e) (days-stay t a e x.part l.list g.kept (sort-is 5 f) (sort-is 6 f'))))
+      rw (simp (f, f') at (ap (λ (y : Moved). y.day) w), set-get_or a.days (usage_at e) blank_day) (days-stay t a e x.part l.list g.kept (sort-is 5 f) (sort-is 6 f'))))
 
   marks-law : (d : ℕ) → d < 400 → get_or b.marks d 0 ≡ recorded_marks after d
   unfolding cells_before
   marks-law = decide (eqb k 8) (λ y. own 8 y) (λ f.
-      rw (simp f at (ap (λ (y : Moved). y.kind) w), simp f at (ap (λ (y : Moved). y.from) w), simp f at (ap (λ (y : Moved). y.to) w), marks-left a e) (marks_stay t a e x.part l.list g.kept (sort-is 8 f)))
+      rw (simp f at (ap (λ (y : Moved). y.kind) w), simp f at (ap (λ (y : Moved). y.from) w), simp f at (ap (λ (y : Moved). y.to) w), marks-left a) (marks_stay t a e x.part l.list g.kept (sort-is 8 f)))
 
   warned-law : (d : ℕ) → d < 400 → get_or b.warned d 0 ≡ cond (warned_on after d) 1 0
   unfolding cells_before
   warned-law = decide (eqb k 7) (λ y. own 7 y) (λ f.
-      rw (simp f at (ap (λ (y : Moved). y.warned) w), warned-left a e) (warned-stay t a e x.part l.list g.kept (sort-is 7 f)))
+      rw (simp f at (ap (λ (y : Moved). y.warned) w), set-get_or a.warned (day_at e) 0) (warned-stay t a e x.part l.list g.kept (sort-is 7 f)))
 
   charges-law : (i j : ℕ) → i < 15 → j < 5 → get_or b.charges (5 * i + j) 0 ≡ charges_in t after i (suc j)
   unfolding cells_before
   charges-law = decide (eqb k 4) (λ y. own 4 y) (λ f.
-      rw (simp f at (ap (λ (y : Moved). y.place) w), simp f at (ap (λ (y : Moved). y.sum) w), charges-left a e) (charges-stay t a e x.part l.list g.kept (sort-is 4 f)))
+      rw (simp f at (ap (λ (y : Moved). y.place) w), simp f at (ap (λ (y : Moved). y.sum) w), set-get_or a.charges 0 0) (charges-stay t a e x.part l.list g.kept (sort-is 4 f)))
 
   -- ---- the totals that no sort but its own writes
 
@@ -160,7 +161,7 @@ module _ (a : Account) (l : Ledger) (e : Event) (g : Agree a.terms a l) (s : Inv
       count = count_law;
     };
     bounds = record {
-      full = omega (arith, events-law, (facts a l g e h).room);
+      full = omega (arith, events-law, (facts a l g e h).passed.room);
       count = count_most;
       credit = omega (arith, events-law, y.credit-most);
       debit = omega (arith, events-law, y.debit-most);
@@ -171,7 +172,7 @@ module _ (a : Account) (l : Ledger) (e : Event) (g : Agree a.terms a l) (s : Inv
       payments = payments-law;
       amounts = amounts-keep t e x.part l.list h.limits g.kept.amounts;
       days = days-law;
-      held = held-keep t e x.part l.list h.limits (facts a l g e h).price g.kept.held;
+      held = held-keep t e x.part l.list h.limits (facts a l g e h).terms.price g.kept.held;
       marks = marks-law;
       warned = warned-law;
       charges = charges-law;

@@ -110,7 +110,7 @@ module _ (a : Account) (l : Ledger) (e : Event) (g : Agree a.terms a l) (s : Inv
 
   -- the event's day has a month
   a-day : is_day t.opened e.day ≡ true
-  a-day = simp ((facts a l g e h).opened, le-leb e.day 399 (facts a l g e h).day)
+  a-day = simp ((facts a l g e h).terms.opened, le-leb e.day 399 (facts a l g e h).passed.day)
 
   month-is : month_on t.opened e.day ≡ month_of t e.day
   month-is = simp a-day

@@ -78,7 +78,7 @@ module _ (a : Account) (l : Ledger) (e : Event) (g : Agree a.terms a l) (s : Inv
   c = cells_of a e
 
   day : e.day ≤ 399
-  day = (facts a l g e h).day
+  day = (facts a l g e h).passed.day
 
   -- the search finds a warning exactly where the ledger has one
   warning-is : is_missing (latest_warning a.warned e.day) ≡ not (warned l.list e.day)
@@ -90,7 +90,7 @@ module _ (a : Account) (l : Ledger) (e : Event) (g : Agree a.terms a l) (s : Inv
 
   -- the event's day has a weekday
   weekday-is : weekday_on t.opened e.day ≡ weekday t e.day
-  weekday-is = simp ((facts a l g e h).opened, le-leb e.day 399 day)
+  weekday-is = simp ((facts a l g e h).terms.opened, le-leb e.day 399 day)
 
   barred-is : barred_on t a.marks e ≡ barred t l.list e.day
   unfolding barred barring_on
@@ -98,7 +98,7 @@ module _ (a : Account) (l : Ledger) (e : Event) (g : Agree a.terms a l) (s : Inv
 
   -- the weekday before
   weekday-back : (d : ℕ) → day_before (weekday t (suc d)) ≡ weekday t d
-  weekday-back d = rw (weekday-next t.opened (facts a l g e h).opened d) (decide (eqb (weekday t d) 6)
+  weekday-back d = rw (weekday-next t.opened (facts a l g e h).terms.opened d) (decide (eqb (weekday t d) 6)
       (λ y. simp y (sym (eqb-true (weekday t d) 6 y)))
       (λ f. simp (f, ne_eqb (weekday t d + 1) 0 (λ z. omega arith)) (omega arith)))
 
@@ -165,9 +165,9 @@ module _ (a : Account) (l : Ledger) (e : Event) (g : Agree a.terms a l) (s : Inv
         balance = diff-zero t.connect ∙ diff-eq t.connect 0 (a.totals.credit + deferral_of t a.totals) a.totals.debit (omega arith);
         plan = ap (λ (x : ℕ). x + deferral_of t a.totals) g.sums.plan ∙ ap (λ (x : ℕ). l.plan + x) q;
         on = g.sums.on;
-        credit-most = omega (arith, g.bounds.credit, g.bounds.debit, g.bounds.full, (facts a l g e h).connect);
+        credit-most = omega (arith, g.bounds.credit, g.bounds.debit, g.bounds.full, (facts a l g e h).terms.connect);
         debit-most = omega (arith, g.bounds.debit);
-        plan-most = omega (arith, g.bounds.plan, g.bounds.debit, g.bounds.full, (facts a l g e h).connect);
+        plan-most = omega (arith, g.bounds.plan, g.bounds.debit, g.bounds.full, (facts a l g e h).terms.connect);
       }))
 
   pub plans : e.sort ≡ 9 → Refines a l e (plan_of t c a.marks e)

@@ -54,7 +54,7 @@ module _ (a : Account) (l : Ledger) (e : Event) (g : Agree a.terms a l) (s : Inv
 
   module _ (f : leb e.day e.usage ≡ false) where
     used : e.usage < 400
-    used = omega (arith, leb-false e.day e.usage f, (facts a l g e h).day)
+    used = omega (arith, leb-false e.day e.usage f, (facts a l g e h).passed.day)
 
     usage-is : usage_at e ≡ e.usage
     usage-is = mod-eq_of_lt used
