@@ -1,27 +1,23 @@
 -- A number's digits: one more at a time, and how many. Assumes nothing.
 use mathlib.Core.Path.{◌≡◌, refl, ap, ◌∙◌}
-use mathlib.Core.Bool.{Bool, true, false}
+use mathlib.Core.Logic.{⊎_elim}
 use mathlib.Core.List.{List, [], ◌∷◌, ◌++◌}
 use Prim.Native.Nat.{ℕ, zero, suc, ◌+◌, ◌*◌, ◌/◌, ◌%◌, ◌^◌, ◌≤◌, ◌<◌}
 use native.Mathlib.Nat.{pow-succ'}
 use native.Mathlib.Omega.{arith}
 use lib.ListN.{length, length-append}
-use lib.Dec.{ltb}
 use lib.IntN.{ℤ, pos, negsuc}
 use lib.Signed.{mag}
-use borrow.Author.Tests.{ltb-true, ltb-false, lt-ltb, le-ltb}
+use borrow.Author.Tests.{lt-ltb, le-ltb}
+use Rattle.std.proofs.lemmas.Bool.{cases_lt}
 use Rattle.printing.specs.Printing.{digits_by, digits, decimal, DigitsSuffice, signed}
 use Rattle.printing.proofs.Counts.{uncounted}
 
--- each way a test can come out
-pub decide : {X : Type 0} (b : Bool) → (b ≡ true → X) → (b ≡ false → X) → X
-decide true t f = t refl
-decide false t f = f refl
-
 local : (f g : ℕ → List ℕ) (n : ℕ) → ((m : ℕ) → m < n → f m ≡ g m) → digits_by f n ≡ digits_by g n
-local f g n h = decide (ltb n 10)
-    (λ t. simp t)
-    (λ t. simp t (ap (λ (d : List ℕ). d ++ ((48 + n % 10) ∷ [])) (h (n / 10) (omega (arith, ltb-false n 10 t)))))
+local f g n h = ⊎_elim
+    (λ l. simp (lt-ltb n 10 l))
+    (λ l. simp (le-ltb n 10 l) (ap (λ (d : List ℕ). d ++ ((48 + n % 10) ∷ [])) (h (n / 10) (omega (arith, l)))))
+    (cases_lt n 10)
 
 pub count-suffices : DigitsSuffice
 unfolding decimal digits
@@ -39,9 +35,10 @@ length_high n h = ap length (decimal-high n h) ∙ length-append (decimal (n / 1
 -- a number below a power of ten
 pub short : (k n : ℕ) → n < 10 ^ suc k → length (decimal n) ≤ suc k
 short zero n h = rw (decimal-low n h) (omega arith)
-short (suc k) n h = decide (ltb n 10)
-    (λ t. rw (decimal-low n (ltb-true n 10 t)) (omega arith))
-    (λ f. omega (arith, length_high n (ltb-false n 10 f), short k (n / 10) (let b : n < 10 * 10 ^ suc k = rw (pow-succ' 10 (suc k)) at h in omega arith)))
+short (suc k) n h = ⊎_elim
+    (λ l. rw (decimal-low n l) (omega arith))
+    (λ l. omega (arith, length_high n l, short k (n / 10) (let b : n < 10 * 10 ^ suc k = rw (pow-succ' 10 (suc k)) at h in omega arith)))
+    (cases_lt n 10)
 
 pub length-decimal : (n : ℕ) → n < 2 ^ 64 → length (decimal n) ≤ 20
 length-decimal n h = short 19 n (omega arith)

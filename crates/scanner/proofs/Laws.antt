@@ -1,8 +1,8 @@
 -- What is read is taken from the front of the text, and the rest is its end: for those who cite specs/Scanner.antt. Assumes nothing.
 use Rattle.std.proofs.Common.{◌≡◌, ℕ, suc, ◌+◌, ◌-◌, ◌≤◌, Bool, true, false, cond, leb, eqb, List, [], ◌∷◌, ◌++◌, length, drop, length-append, length-drop, refl, arith}
 use borrow.Author.Tests.{leb-true}
+use Rattle.std.proofs.lemmas.Bool.{and_parts}
 use Rattle.std.proofs.lemmas.List.{drop-drop}
-use Rattle.calendar.proofs.Sums.{and_left}
 use Rattle.scanner.specs.Scanner.{bytes, Read, got, broken, then, feed, read_line, after_prefix, read_value, is_number, value_from, read_number, is_date_form, date_value, read_date}
 
 -- what follows a place that is at least n bytes on
@@ -97,7 +97,7 @@ module _ (key s : List ℕ) where
   number-taken =
       then-taken _ s _ (read_value key s) _ value-taken (λ v r h.
       tested-taken _ s (is_number v) (value_from 0 v) r (λ t.
-      let l = leb-true 1 (length v) (and_left (leb 1 (length v)) _ t) in
+      let l = leb-true 1 (length v) (and_parts (leb 1 (length v)) _ t).0 in
       rest-fewer h (omega arith)))
 
   pub date-taken : Taken (λ d. length key + 2) s (read_date key s)

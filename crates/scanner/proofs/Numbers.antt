@@ -1,11 +1,12 @@
 -- The digits of a number, one by one. Assumes nothing.
-use Rattle.std.proofs.Common.{◌≡◌, ℕ, ◌+◌, ◌-◌, ◌*◌, ◌<◌, ◌≤◌, Bool, cond, true, false, Some, None, List, [], ◌∷◌, length, get_or, drop, refl, sym, arith, add-one, drop-cons}
+use Rattle.std.proofs.Common.{◌≡◌, ℕ, ◌+◌, ◌-◌, ◌*◌, ◌<◌, ◌≤◌, true, Some, None, List, [], ◌∷◌, length, get_or, drop, sym, arith, add-one, drop-cons}
 use mathlib.Core.Bool.{and-false}
 use borrow.Author.Tests.{le-leb, lt-leb}
 use lib.ListN.{drop_of_length-le}
 use Rattle.scanner.specs.Scanner.{is_digit, all_digits, value_from, max_number}
 use Rattle.std.proofs.lemmas.Option.{cond_some}
 use Rattle.scanner.specs.Values.{digit_of, decimal}
+use Rattle.scanner.proofs.Lines.{cond_none}
 
 -- with n read before a place, what is left decides
 pub record GoesOn (v : List ℕ) (i n : ℕ) : Type 0 where
@@ -18,10 +19,6 @@ unfolding value_from
 value_grows n [] = omega arith
 value_grows n (b ∷ s) = let h = value_grows (n * 10 + (b - 48)) s in omega arith
 
-no_digit : (t : Bool) (d : ℕ) → None ≡ cond t (Some d) None → t ≡ false
-no_digit true d h = absurd (cc)
-no_digit false d h = refl
-
 module _ (v : List ℕ) (i n : ℕ) (g : GoesOn v i n) where
   module _ (h : i < length v) where
     left : drop i v ≡ get_or v i 0 ∷ drop (i + 1) v
@@ -29,7 +26,7 @@ module _ (v : List ℕ) (i n : ℕ) (g : GoesOn v i n) where
 
     pub not-digit : None ≡ digit_of (get_or v i 0) → None ≡ decimal v
     unfolding decimal all_digits
-    not-digit d = simp (g.digits, left, no_digit _ _ d)
+    not-digit d = simp (g.digits, left, cond_none _ _ d)
 
     pub too-large : (d : ℕ) → d ≤ get_or v i 0 - 48 → 4294967296 ≤ n * 10 + d → None ≡ decimal v
     unfolding decimal value_from
