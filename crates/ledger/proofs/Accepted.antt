@@ -8,13 +8,14 @@ use lib.ListN.{length}
 use lib.Dec.{ltb, eqb}
 use native.Mathlib.Omega.{arith}
 use borrow.Author.Tests.{ltb-true, ltb-false, leb-false, eqb-true, not-false}
+use Rattle.std.proofs.lemmas.Bool.{and_parts, or_parts}
 use Rattle.terms.specs.declared.Terms.{Terms}
 use Rattle.ledger.specs.declared.Event.{Event}
 use Rattle.ledger.specs.Event.{in_limits}
 use Rattle.ledger.specs.Entries.{last_day}
 use Rattle.ledger.specs.Rules.{Ledger, Rule, refusals, first_of}
 use Rattle.ledger.specs.Ledger.{refusal, accepts}
-use Rattle.ledger.proofs.Cases.{decide, neither, both}
+use Rattle.ledger.proofs.Cases.{decide}
 
 -- whether the rule of number n applies
 abbrev pub applies : ℕ → List Rule → Bool
@@ -38,7 +39,7 @@ none-applies : (rs : List Rule) → numbered rs ≡ true → first_of rs ≡ 0 �
 unfolding numbered first_of
 none-applies [] above z n = refl
 none-applies (r ∷ rs) above z n =
-    let b = both (ltb 0 r.0) (numbered rs) above in
+    let b = and_parts (ltb 0 r.0) (numbered rs) above in
     decide r.1
     (λ t. absurd (omega (arith, ltb-true 0 r.0 b.0, simp t at z)))
     (λ f. decide (eqb r.0 n) (λ y. simp (y, f)) (λ d. simp d (none-applies rs b.1 (simp f at z) n)))
@@ -57,4 +58,4 @@ accepted-by t l e a = record {
     rule = none-applies (refusals t l e) refl (eqb-true (refusal t l e) 0 a)
 
     days : (ltb e.day (last_day l.list) ≡ false) × (ltb 399 e.day ≡ false)
-    days = neither (ltb e.day (last_day l.list)) (ltb 399 e.day) (rule 2)
+    days = or_parts (ltb e.day (last_day l.list)) (ltb 399 e.day) (rule 2)

@@ -5,11 +5,7 @@ use mathlib.Core.Bool.{Bool, true, false, ◌&&◌, ◌||◌, true≢false}
 use Prim.Native.Nat.{ℕ}
 use lib.Dec.{eqb}
 use borrow.Author.Tests.{eqb-true}
-
--- each way a test can come out
-pub decide : {X : Type 0} (b : Bool) → (b ≡ true → X) → (b ≡ false → X) → X
-decide true t f = t refl
-decide false t f = f refl
+pub use Rattle.calendar.proofs.Sums.{decide}
 
 -- Both tests of an "or" that fails fail.
 pub neither : (a b : Bool) → (a || b) ≡ false → (a ≡ false) × (b ≡ false)

@@ -8,13 +8,14 @@ use lib.Dec.{ltb, leb}
 use lib.IntN.{ℤ, pos, negsuc}
 use lib.Signed.{lt_z, le_z}
 use borrow.Author.Tests.{ltb-true, ltb-false, lt-leb, le-leb, eqb-true, eq-eqb, not-true, not-false}
+use Rattle.std.proofs.lemmas.Bool.{or_parts}
 use Rattle.terms.specs.declared.Terms.{Terms}
 use Rattle.ledger.specs.declared.Event.{Event}
 use Rattle.ledger.specs.Event.{is_disconnect, is_connect, in_limits}
 use Rattle.ledger.specs.Entries.{warned}
 use Rattle.ledger.specs.Rules.{Ledger, day_refused, is_full, MayCut, refusals, first_of}
 use Rattle.ledger.specs.Ledger.{accepts, refusal, ledger_step}
-use Rattle.ledger.proofs.Cases.{decide, neither}
+use Rattle.ledger.proofs.Cases.{decide}
 use Rattle.ledger.proofs.Accepted.{Accepted, accepted-by}
 
 -- the answer's code is the table's number
@@ -36,8 +37,8 @@ grounds-of : (t : Terms) (l : Ledger) (e : Event) → e.sort ≡ 10 → Accepted
 unfolding refusals
 grounds-of t l e k a =
     let y : is_disconnect e ≡ true = eq-eqb e.sort 10 k in
-    let b : le_z (pos t.cutoff) l.balance ≡ false = simp y at (neither (is_disconnect e && le_z (pos t.cutoff) l.balance) (is_connect e && lt_z l.balance (pos t.connect)) (a.rule 12)).0 in (
-      not-false l.on (simp y at (neither (is_disconnect e && not l.on) (is_connect e && l.on) (a.rule 11)).0),
+    let b : le_z (pos t.cutoff) l.balance ≡ false = simp y at (or_parts (is_disconnect e && le_z (pos t.cutoff) l.balance) (is_connect e && lt_z l.balance (pos t.connect)) (a.rule 12)).0 in (
+      not-false l.on (simp y at (or_parts (is_disconnect e && not l.on) (is_connect e && l.on) (a.rule 11)).0),
       lt_z-not l.balance (pos t.cutoff) ∙ rw b,
       not-false (warned l.list e.day) (simp y at (a.rule 13)),
       simp y at (a.rule 14),

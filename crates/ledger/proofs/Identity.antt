@@ -9,6 +9,7 @@ use native.Mathlib.Omega.{arith}
 use lib.Dec.{leb, eqb}
 use lib.IntN.{pos, ◌+ℤ◌, ◌-ℤ◌, +ℤ_idr}
 use borrow.Author.Tests.{ltb-true, leb-true, leb-false, eqb-true, not-true, not-false}
+use Rattle.std.proofs.lemmas.Bool.{and_parts, or_parts}
 use Rattle.tariff.specs.Tariff.{cost_of}
 use Rattle.terms.specs.declared.Terms.{Terms}
 use Rattle.terms.specs.Terms.{max_share, valid_terms}
@@ -18,7 +19,7 @@ use Rattle.ledger.specs.Entries.{usage_cost, Entry, Entries, any, count, sum, su
 use Rattle.ledger.specs.Sums.{kept_total, credit_total, charge_total, read_cost, settled, standing_cost}
 use Rattle.ledger.specs.Rules.{Ledger, may_defer, refusals}
 use Rattle.ledger.specs.Ledger.{opening, Effect, plan_part, pay_effect, reverse_effect, balance_effect, service_effect, estimate_effect, read_effect, deferred, plan_effect, effect_of, joined, accepts, ledger_step}
-use Rattle.ledger.proofs.Cases.{decide, neither, both, other}
+use Rattle.ledger.proofs.Cases.{decide, other}
 use Rattle.ledger.proofs.Money.{diff, diff-eq, diff-add, diff-sub, diff-gap, diff-zero, diff-high, by_sign}
 use Rattle.ledger.proofs.Accepted.{Accepted, accepted-by}
 use Rattle.ledger.specs.Invariant.{All, UsedBefore, Invariant}
@@ -79,7 +80,7 @@ cond_same false m n h = refl
 none-counts : (p : Event → Bool) (l : Entries) → any p l ≡ false → count p l ≡ 0
 unfolding any count
 none-counts p [] f = refl
-none-counts p (x ∷ l) f = let n = neither (p x.event) (any p l) f in simp n.0 (omega (arith, none-counts p l n.1))
+none-counts p (x ∷ l) f = let n = or_parts (p x.event) (any p l) f in simp n.0 (omega (arith, none-counts p l n.1))
 
 count-weighs : (p : Event → Bool) (l : Entries) → sum_of (λ x b. p x.event) (λ x. 1) l ≡ count p l
 unfolding count sum
@@ -93,7 +94,7 @@ found-costs : (price : ℕ → ℕ) (u : ℕ) (l : Entries)
 unfolding find any
 found-costs price u [] = refl
 found-costs price u (x ∷ l) = decide (estimate_on u x.event)
-    (λ t. simp t (ap (λ (v : ℕ). cost_of x.event.wh (price v)) (eqb-true x.event.usage u (both (is_estimate x.event) (eqb x.event.usage u) t).1)))
+    (λ t. simp t (ap (λ (v : ℕ). cost_of x.event.wh (price v)) (eqb-true x.event.usage u (and_parts (is_estimate x.event) (eqb x.event.usage u) t).1)))
     (λ f. simp f (found-costs price u l))
 
 module _ (t : Terms) (l : Entries) (x : Entry) (past : All (UsedBefore x.event.day) l) (now : UsedBefore x.event.day x) where
@@ -109,7 +110,7 @@ module _ (t : Terms) (l : Entries) (x : Entry) (past : All (UsedBefore x.event.d
 
   standing-stays : (q : ℕ → Bool) (y : Entry) → UsedBefore x.event.day y
       → cond (is_estimate y.event && not (q y.event.usage)) (usage_cost t (x ∷ l) y.event) 0 ≡ cond (is_estimate y.event && not (q y.event.usage)) (usage_cost t l y.event) 0
-  standing-stays q y h = cond_same (is_estimate y.event && not (q y.event.usage)) _ _ (λ s. cost-stays y h (rw (both (is_estimate y.event) (not (q y.event.usage)) s).0))
+  standing-stays q y h = cond_same (is_estimate y.event && not (q y.event.usage)) _ _ (λ s. cost-stays y h (rw (and_parts (is_estimate y.event) (not (q y.event.usage)) s).0))
 
   -- the estimates that stand, at the old prices
   standing-new : standing_cost t (x ∷ l)
@@ -157,14 +158,14 @@ module _ (t : Terms) (l : Ledger) (e : Event) (p : ℕ) (s : Invariant t l) (a :
   unfolding refusals
   blank-before i =
       let d : UsageDay = usage_day t l.list e.usage in
-      let b : is_blank d ≡ true = not-false (is_blank d) (simp i at (neither (is_estimate e && not (is_blank d)) (is_read e && is_metered d) (a.rule 8)).0) in
-      neither _ _ (not-true _ (sym (blank-is t l.list e.usage) ∙ b))
+      let b : is_blank d ≡ true = not-false (is_blank d) (simp i at (or_parts (is_estimate e && not (is_blank d)) (is_read e && is_metered d) (a.rule 8)).0) in
+      or_parts _ _ (not-true _ (sym (blank-is t l.list e.usage) ∙ b))
 
   unread : is_read e ≡ true → any (read_on e.usage) l.list ≡ false
   unfolding refusals
   unread r =
       let d : UsageDay = usage_day t l.list e.usage in
-      sym (metered-is t l.list e.usage) ∙ (simp r at (neither (is_estimate e && not (is_blank d)) (is_read e && is_metered d) (a.rule 8)).1)
+      sym (metered-is t l.list e.usage) ∙ (simp r at (or_parts (is_estimate e && not (is_blank d)) (is_read e && is_metered d) (a.rule 8)).1)
 
   pub standing-then : standing_cost t (entry_of e p ∷ l.list) + cond (is_read e) (estimate_cost_of (usage_day t l.list e.usage)) 0
       ≡ standing_cost t l.list + cond (is_estimate e) (usage_cost t l.list e) 0
@@ -201,7 +202,7 @@ module _ (t : Terms) (l : Ledger) (e : Event) (p : ℕ) (s : Invariant t l) (a :
   unfolding kept_total sum reversed any payment refusals
   kept_then = decide (is_reverse e)
       (λ r. let i : is_pay e ≡ false = other e.sort 2 1 refl r in
-      let f : reversed l.list e.number ≡ false = (neither (leb (payment_count l.list) e.number) (reversed l.list e.number) (simp r at (a.rule 6))).1 in
+      let f : reversed l.list e.number ≡ false = (or_parts (leb (payment_count l.list) e.number) (reversed l.list e.number) (simp r at (a.rule 6))).1 in
       simp (r, i) (omega (
         arith,
         kept-before true r,
@@ -307,8 +308,8 @@ module _ (t : Terms) (l : Ledger) (e : Event) (s : Invariant t l) (a : Accepted 
   numbers-then : (p n : ℕ) → reversed (entry_of e p ∷ l.list) n ≡ true → n < payment_count (entry_of e p ∷ l.list)
   unfolding reversed any payment_count count refusals
   numbers-then p n r = decide (is_reverse e && eqb e.number n)
-      (λ y. let b = both (is_reverse e) (eqb e.number n) y in
-      let given = leb-false (payment_count l.list) e.number (neither (leb (payment_count l.list) e.number) (reversed l.list e.number) (simp b.0 at (a.rule 6))).0 in
+      (λ y. let b = and_parts (is_reverse e) (eqb e.number n) y in
+      let given = leb-false (payment_count l.list) e.number (or_parts (leb (payment_count l.list) e.number) (reversed l.list e.number) (simp b.0 at (a.rule 6))).0 in
       omega (arith, given, eqb-true e.number n b.1))
       (λ f. omega (arith, s.numbers n (simp f at r)))
 
@@ -319,7 +320,7 @@ module _ (t : Terms) (l : Ledger) (e : Event) (s : Invariant t l) (a : Accepted 
   once-then : (p u : ℕ) → count (estimate_on u) (entry_of e p ∷ l.list) ≤ 1
   unfolding count
   once-then p u = decide (estimate_on u e)
-      (λ y. let b = both (is_estimate e) (eqb e.usage u) y in
+      (λ y. let b = and_parts (is_estimate e) (eqb e.usage u) y in
       simp y (omega (arith, none-counts (estimate_on u) l.list (rw (eqb-true e.usage u b.1) at (blank-before t l e p s a b.0).1))))
       (λ f. simp f (omega (arith, s.once u)))
 

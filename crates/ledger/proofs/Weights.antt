@@ -7,10 +7,11 @@ use Prim.Native.Nat.{ℕ, suc, ◌+◌, ◌≤◌}
 use native.Mathlib.Omega.{arith}
 use lib.Dec.{eqb}
 use borrow.Author.Tests.{eqb-true, eqb-false, eq-eqb, ne_eqb}
+use Rattle.std.proofs.lemmas.Bool.{and_parts}
 use Rattle.ledger.specs.Event.{is_pay}
 use Rattle.ledger.specs.Entries.{Entry, Entries, count, sum, sum_of, find, or_zero, payment_count, has_number}
 use Rattle.ledger.specs.Invariant.{All}
-use Rattle.ledger.proofs.Cases.{decide, both}
+use Rattle.ledger.proofs.Cases.{decide}
 
 pub all_map : (P Q : Entry → Type 0) → ((x : Entry) → P x → Q x) → (l : Entries) → All P l → All Q l
 all_map P Q h [] a = tt
@@ -66,5 +67,5 @@ pub given-once : (n : ℕ) (l : Entries) → sum_of (has_number n) (λ x. 1) l �
 unfolding sum
 given-once n [] = omega arith
 given-once n (x ∷ l) = decide (has_number n x l)
-    (λ t. simp t (omega (arith, not-given n l (omega (arith, eqb-true (payment_count l) n (both (is_pay x.event) _ t).1)))))
+    (λ t. simp t (omega (arith, not-given n l (omega (arith, eqb-true (payment_count l) n (and_parts (is_pay x.event) _ t).1)))))
     (λ f. simp f (omega (arith, given-once n l)))

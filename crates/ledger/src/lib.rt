@@ -1,12 +1,14 @@
-// The ledger of demand 3: its definitions, from document 01 alone, and the figures that document 01 marks (P).
-// It uses the calendar's, the tariff's and the terms' definitions, and nothing of the head.
+// The ledger of demand 3: its definitions, from document 01 alone, and the figures that document 01 marks (P); the event, its answer and a month's
+// figures, as the code and C have them.
+// It uses the calendar's, the tariff's and the terms' definitions, and nothing of the head. Its promises cite specs/Refusals.antt and
+// specs/Figures.antt.
 #![tactic(auto)]
 
 ghost use Rattle.std.specs.Prelude.{◌≡◌, map};
 ghost use Rattle.ledger.specs.Figures.{Figure, shown, figures};
 ghost use Rattle.ledger.specs.Refusals.{refusal_code, code_of, answer_record, summary_record};
 
-// Why terms, an event, a text or a row is refused, in the order of the table "What comes back on a refusal" (specs/Refusals.antt).
+// Why terms, an event, a month, a text or a row is refused: the table "What comes back on a refusal", in its order (specs/Refusals.antt).
 #[derive(Clone, Copy, Debug, PartialEq, Eq)]
 pub enum Refusal {
     Terms = 1,
@@ -46,7 +48,8 @@ pub fn code<T: Drop>(answer: Result<T, Refusal>) -> u8
     }
 }
 
-// An event as it is posted. Only the fields that its sort names are judged (specs/Event.antt).
+// An event as it is posted. Only the fields that its sort names are judged (specs/Event.antt). The sort and the kind are numbers: C hands in any, and
+// document 01 names a match on the number with a range arm.
 #[repr(C)]
 #[derive(Clone, Copy, Debug, PartialEq, Eq, Default)]
 pub struct Event {
@@ -76,7 +79,7 @@ pub const MAX_PAYMENTS: u32 = 128;
 
 pub const REQUIRED_DEBT: u64 = 5000;
 
-// What a posted event is answered, as C gets it: the code, 0 where it is accepted, and the value.
+// What a posted event is answered, as C gets it: C's record has the code, 0 where the event is accepted, beside the value.
 #[repr(C)]
 #[derive(Clone, Copy, Debug, PartialEq, Eq)]
 pub struct Answer {
@@ -126,8 +129,8 @@ pub struct Figures {
     pub average: Option<u64>,
 }
 
-// The same as C gets them. The code is 3 for a month that holds none of the account's days, and 1 where there is no account; every figure is
-// 0 then.
+// The same as C gets them: its record has the code beside the figures, and a flag for an average that is missing. The code is 3 for a month that
+// holds none of the account's days, and 1 where there is no account; every figure is 0 then.
 #[repr(C)]
 #[derive(Clone, Copy, Debug, PartialEq, Eq, Default)]
 pub struct Summary {

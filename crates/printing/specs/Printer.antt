@@ -16,3 +16,7 @@ pub record Writes (p : Printer) (bytes : List ℕ) (q : Printer) : Type 0 where
 -- so many bytes have room
 abbrev pub HasRoom : Printer → ℕ → Type 0
 HasRoom p count = p.at + count ≤ length p.out.now
+
+-- the bytes are written, and the place after them is at most so many on
+abbrev pub WritesWithin : ℕ → Printer → List ℕ → Printer → Type 0
+WritesWithin room p bytes q = Writes p bytes q × (q.at ≤ p.at + room)

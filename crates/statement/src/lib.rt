@@ -1,11 +1,11 @@
 // What `summary` prints for a text: its month figures, put whole into a lent buffer.
 // It uses the calendar, the terms, the ledger's refusals, the account, the posting call, the event text, the month's figures, the printing and
-// the transcript. Its promise cites
-// specs/Statement.antt, and inside the crate specs/Work.antt.
+// the transcript, and in its definitions the scanner's and the refinement's. Its promise cites specs/Statement.antt, and inside the crate
+// specs/Work.antt.
 #![tactic(auto)]
 
 ghost use Rattle.std.specs.Prelude.{◌≡◌, cond, ℕ, ◌+◌, ◌≤◌, length};
-ghost use Rattle.printing.specs.Printer.{Writes};
+ghost use Rattle.printing.specs.Printer.{HasRoom, Writes, WritesWithin};
 ghost use Rattle.refinement.specs.Lists.{account_after};
 ghost use Rattle.months.specs.Summary.{summary_of};
 ghost use Rattle.calendar.specs.Calendar.{month_count};
@@ -20,13 +20,13 @@ use printing::Printer;
 // A buffer that holds any statement.
 pub const STATEMENT_ROOM: usize = 8192;
 
-// ---- one line
+// ---- one line: a field is a call, as its word stands in the definition. A table would cut each word to a slice (`&b".."[..]`), for their
+// lengths differ.
 
 // The month, its code and its payments.
 fn put_payments(page: &mut Printer, m: u32, s: Summary)
-    requires { page.old.at + payments_room ≤ length page.old.out.now }
-    ensures printed { Writes page.old (payments_part m s) page.new }
-    ensures upper_bound { page.new.at ≤ page.old.at + payments_room }
+    requires { HasRoom page.old payments_room }
+    ensures { WritesWithin payments_room page.old (payments_part m s) page.new }
 {
     page.put_field(b"m=", u64::from(m));
     page.put_field(b" code=", u64::from(s.code));
@@ -38,9 +38,8 @@ fn put_payments(page: &mut Printer, m: u32, s: Summary)
 
 // Its usage.
 fn put_usage(page: &mut Printer, s: Summary)
-    requires { page.old.at + usage_room ≤ length page.old.out.now }
-    ensures printed { Writes page.old (usage_part s) page.new }
-    ensures upper_bound { page.new.at ≤ page.old.at + usage_room }
+    requires { HasRoom page.old usage_room }
+    ensures { WritesWithin usage_room page.old (usage_part s) page.new }
 {
     page.put_field(b" metered_wh=", s.metered.wh);
     page.put_field(b" metered_cost=", s.metered.cost);
@@ -50,9 +49,8 @@ fn put_usage(page: &mut Printer, s: Summary)
 
 // Its charges by kind and its average price.
 fn put_charges(page: &mut Printer, s: Summary)
-    requires { page.old.at + charges_room ≤ length page.old.out.now }
-    ensures printed { Writes page.old (charges_part s) page.new }
-    ensures upper_bound { page.new.at ≤ page.old.at + charges_room }
+    requires { HasRoom page.old charges_room }
+    ensures { WritesWithin charges_room page.old (charges_part s) page.new }
 {
     page.put_field(b" kind1=", s.charges[0]);
     page.put_field(b" kind2=", s.charges[1]);
@@ -66,9 +64,8 @@ fn put_charges(page: &mut Printer, s: Summary)
 
 // A month's line.
 fn put_line(page: &mut Printer, m: u32, s: Summary)
-    requires { page.old.at + summary_room ≤ length page.old.out.now }
-    ensures printed { Writes page.old (summary_line m s) page.new }
-    ensures upper_bound { page.new.at ≤ page.old.at + summary_room }
+    requires { HasRoom page.old summary_room }
+    ensures { WritesWithin summary_room page.old (summary_line m s) page.new }
 {
     put_payments(page, m, s);
     put_usage(page, s);
@@ -77,7 +74,7 @@ fn put_line(page: &mut Printer, m: u32, s: Summary)
 
 // The lines of months 0 to 14.
 fn put_months(page: &mut Printer, a: &Account)
-    requires { page.old.at + statement_room ≤ length page.old.out.now }
+    requires { HasRoom page.old statement_room }
     ensures { Writes page.old (month_lines (λ (m : ℕ). summary_of a.now m) month_count) page.new }
 {
     for m in 0..MONTH_COUNT {
@@ -113,7 +110,8 @@ fn post_events(a: &mut Account, text: &[u8])
     }
 }
 
-// The statement of a text, from the start of the buffer on, and how many bytes it has. A buffer shorter than `STATEMENT_ROOM` is left alone.
+// The statement of a text, from the start of the buffer on, and how many bytes it has. A buffer shorter than `STATEMENT_ROOM` is left alone, and
+// the answer is 0: C takes it as a length.
 pub fn statement(text: &[u8], out: &mut [u8]) -> usize
     ensures { WholeStatement text.now out.old out.new result }
 {

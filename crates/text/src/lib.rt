@@ -38,7 +38,7 @@ pub fn read_terms(text: &[u8]) -> Option<(Terms, &[u8])>
 
 // ---- the sort of an event
 
-// The sort that a word names.
+// The sort that a word names: a `match`, in which each word and its number are a line.
 #[tactic(auto, using(crate::proofs::Words::other_words), unfolding(crate::specs::Words::sort_of, crate::specs::Text::sort_in, scanner::specs::Scanner::same))]
 fn sort_of(word: &[u8]) -> Option<u32>
     ensures { result ≡ sort_of word.now }
@@ -69,7 +69,7 @@ fn read_sort(text: &[u8]) -> Option<(u32, &[u8])>
 
 // ---- an event
 
-// The event with the fields that its sort names.
+// The event with the fields that its sort names: a `match` on the sort, a number as in the event, in which the rule of each sort is a line.
 #[tactic(auto, unfolding(crate::specs::Text::read_fields))]
 fn read_fields(text: &[u8], event: Event) -> Option<(Event, &[u8])>
     ensures { IsRead (read_fields (fields_in sorts event.sort) event text.now) result }

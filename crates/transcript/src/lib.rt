@@ -1,12 +1,13 @@
 // What `prepay` prints for a text: whole into a lent buffer, or in pieces through one of any size.
-// It uses the terms, the ledger's answers, the scanner's and the text's reading, the moves, the account, the readings and the printing. Its promises cite specs/Transcript.antt,
-// specs/Counts.antt and specs/Pieces.antt, which use specs/Events.antt, specs/Progress.antt and specs/Work.antt.
+// It uses the terms, the ledger's answers, the scanner's and the text's reading, the moves, the account, the readings and the printing, and in its
+// definitions the ledger after each event, which the refinement ties to the account. Its promises cite specs/Transcript.antt, specs/Counts.antt and
+// specs/Pieces.antt, which use specs/Events.antt, specs/Progress.antt and specs/Work.antt.
 #![tactic(auto)]
 
 ghost use Rattle.std.specs.Prelude.{◌≡◌, ℕ, false, ◌+◌, ◌≤◌, ◌<◌, length};
 ghost use Rattle.ledger.specs.Refusals.{refusal_code};
 ghost use Rattle.account.specs.Record.{fresh};
-ghost use Rattle.printing.specs.Printer.{Writes};
+ghost use Rattle.printing.specs.Printer.{HasRoom, Writes, WritesWithin};
 ghost use Rattle.scanner.specs.Scanner.{IsRead};
 ghost use Rattle.transcript.specs.Transcript.{WholeTranscript, terms_line, terms_in};
 ghost use Rattle.transcript.specs.Work.{account_line, account_last_line};
@@ -46,9 +47,8 @@ pub struct Progress {
 
 // The line of an event, by its answer and the totals after it.
 fn put_event(page: &mut Printer, n: u64, answer: Answer, s: Totals)
-    requires { page.old.at + event_room ≤ length page.old.out.now }
-    ensures printed { Writes page.old (account_line n answer.code answer.value s) page.new }
-    ensures upper_bound { page.new.at ≤ page.old.at + event_room }
+    requires { HasRoom page.old event_room }
+    ensures { WritesWithin event_room page.old (account_line n answer.code answer.value s) page.new }
 {
     page.put_field(b"n=", n);
     page.put_field(b" code=", u64::from(answer.code));
@@ -60,7 +60,7 @@ fn put_event(page: &mut Printer, n: u64, answer: Answer, s: Totals)
 
 // The line of refused or malformed terms.
 fn put_terms(page: &mut Printer, code: u8)
-    requires { page.old.at + event_room ≤ length page.old.out.now }
+    requires { HasRoom page.old event_room }
     ensures { Writes page.old (terms_line code) page.new }
 {
     put_event(page, 0, Answer { code, value: 0 }, Totals::default());
@@ -68,7 +68,7 @@ fn put_terms(page: &mut Printer, code: u8)
 
 // The same for a refusal. Nothing is put where an event's line might have no room.
 pub fn put_refusal(page: &mut Printer, refusal: Refusal)
-    ensures printed { page.old.at + event_room ≤ length page.old.out.now → Writes page.old (terms_line (refusal_code refusal)) page.new }
+    ensures printed { HasRoom page.old event_room → Writes page.old (terms_line (refusal_code refusal)) page.new }
     ensures short { length page.old.out.now < page.old.at + event_room → page.new ≡ page.old }
 {
     if page.out.len().saturating_sub(page.at) >= EVENT_ROOM {
@@ -78,7 +78,7 @@ pub fn put_refusal(page: &mut Printer, refusal: Refusal)
 
 // The last line, by the totals.
 fn put_last_line(page: &mut Printer, s: Totals)
-    requires { page.old.at + last_room ≤ length page.old.out.now }
+    requires { HasRoom page.old last_room }
     ensures { Writes page.old (account_last_line s) page.new }
 {
     page.put_sum(b"settled=", readings::settled(s));
@@ -160,7 +160,8 @@ impl Progress {
         page.at
     }
 
-    // The next piece, from the start of the buffer on, and how many bytes it has. A buffer shorter than `PIECE_ROOM` gets none.
+    // The next piece, from the start of the buffer on, and how many bytes it has. A buffer shorter than `PIECE_ROOM` gets none: 0, since C takes the
+    // answer as a length.
     pub fn piece(&mut self, text: &[u8], out: &mut [u8]) -> usize
         ensures piece { Piece text.now (reached self.old 0) out.old out.new (reached self.new result) }
 
@@ -184,7 +185,8 @@ impl Progress {
     }
 }
 
-// The transcript of a text, from the start of the buffer on, and how many bytes it has. A buffer shorter than `TRANSCRIPT_ROOM` is left alone.
+// The transcript of a text, from the start of the buffer on, and how many bytes it has. A buffer shorter than `TRANSCRIPT_ROOM` is left alone, and
+// the answer is 0: C takes it as a length.
 pub fn transcript(text: &[u8], out: &mut [u8]) -> usize
     ensures { WholeTranscript text.now out.old out.new result }
 {

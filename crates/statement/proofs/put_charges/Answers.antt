@@ -21,9 +21,8 @@ returns c =
     (field-then (bytes " kind5=") (decimal (kind 4)) 20 (length-decimal (kind 4) (search rules)) c.put_field-5.ensures 59
     (field-then (bytes " average=") (decimal s.average) 20 (length-decimal s.average (search rules)) c.put_field-6.ensures 30
     (field-then (bytes " missing=") (decimal c.from.result) 20 (length-decimal c.from.result (search rules)) c.put_field-7.ensures 1
-    (word-last c.put_bytes.ensures))))))) c.requires in
-    record {
-      printed = rw (then-fields (bytes " kind1=") (kind 0) (bytes " kind2=") (kind 1) _, then-fields (bytes " kind3=") (kind 2) (bytes " kind4=") (kind 3) _, then-fields (bytes " kind5=") (kind 4) (bytes " average=") s.average _)
-          (rw (c.from.ensures ∙ flag s.missing) at w.0);
-      upper_bound = w.1;
-    }
+    (word-last c.put_bytes.ensures))))))) c.requires in (
+      rw (then-fields (bytes " kind1=") (kind 0) (bytes " kind2=") (kind 1) _, then-fields (bytes " kind3=") (kind 2) (bytes " kind4=") (kind 3) _, then-fields (bytes " kind5=") (kind 4) (bytes " average=") s.average _)
+          (rw (c.from.ensures ∙ flag s.missing) at w.0),
+      w.1,
+    )

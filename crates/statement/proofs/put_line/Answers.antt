@@ -5,11 +5,11 @@ use Rattle.statement.specs.Statement.{summary_line}
 use Rattle.statement.proofs.put_line.Goals as goal
 
 pub put_usage-requires : goal.put_usage-requires
-put_usage-requires c = omega (arith, c.requires, c.put_payments.ensures.upper_bound, kept c.put_payments.ensures.printed.wrote)
+put_usage-requires c = omega (arith, c.requires, c.put_payments.ensures.1, kept c.put_payments.ensures.0.wrote)
 
 pub put_charges-requires : goal.put_charges-requires
 put_charges-requires c =
-    omega (arith, c.requires, c.put_payments.ensures.upper_bound, kept c.put_payments.ensures.printed.wrote, c.put_usage.ensures.upper_bound, kept c.put_usage.ensures.printed.wrote)
+    omega (arith, c.requires, c.put_payments.ensures.1, kept c.put_payments.ensures.0.wrote, c.put_usage.ensures.1, kept c.put_usage.ensures.0.wrote)
 
 pub returns : goal.returns
 unfolding summary_line
@@ -17,7 +17,4 @@ returns c =
     let paid = c.put_payments.ensures in
     let used = c.put_usage.ensures in
     let charged = c.put_charges.ensures in
-    record {
-      printed = printed_then paid.printed (printed_then used.printed charged.printed);
-      upper_bound = omega (arith, paid.upper_bound, used.upper_bound, charged.upper_bound);
-    }
+    (printed_then paid.0 (printed_then used.0 charged.0), omega (arith, paid.1, used.1, charged.1))

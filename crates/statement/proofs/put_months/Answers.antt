@@ -14,4 +14,4 @@ pub loop-m-preserved : goal.loop-m-preserved
 loop-m-preserved c =
     let i = c.loop-m.invariant in
     let line = c.put_line.ensures in
-    (omega (arith, i.0, line.upper_bound), one_more _ c.loop-m.m _ i.1 (c.from.ensures ∙ c.summary.ensures.account) line.printed)
+    (omega (arith, i.0, line.1), one_more _ c.loop-m.m _ i.1 (c.from.ensures ∙ c.summary.ensures.account) line.0)

@@ -18,9 +18,8 @@ returns c =
     (field-then (bytes " kept_count=") (decimal c.from-3.result) 20 (length-decimal c.from-3.result (search rules)) c.put_field-3.ensures 100
     (field-then (bytes " kept_sum=") (decimal s.kept.sum) 20 (length-decimal s.kept.sum (search rules)) c.put_field-4.ensures 70
     (field-then (bytes " reversed_count=") (decimal c.from-4.result) 20 (length-decimal c.from-4.result (search rules)) c.put_field-5.ensures 34
-    (field-last (bytes " reversed_sum=") (decimal s.reversed.sum) 20 (length-decimal s.reversed.sum (search rules)) c.put_field-6.ensures))))) c.requires in
-    record {
-      printed = rw (then-fields (bytes "m=") c.args.m (bytes " code=") s.code _, then-fields (bytes " kept_count=") s.kept.count (bytes " kept_sum=") s.kept.sum _)
-          (rw (c.from.ensures, c.from-2.ensures, c.from-3.ensures, c.from-4.ensures) at w.0);
-      upper_bound = w.1;
-    }
+    (field-last (bytes " reversed_sum=") (decimal s.reversed.sum) 20 (length-decimal s.reversed.sum (search rules)) c.put_field-6.ensures))))) c.requires in (
+      rw (then-fields (bytes "m=") c.args.m (bytes " code=") s.code _, then-fields (bytes " kept_count=") s.kept.count (bytes " kept_sum=") s.kept.sum _)
+          (rw (c.from.ensures, c.from-2.ensures, c.from-3.ensures, c.from-4.ensures) at w.0),
+      w.1,
+    )

@@ -17,4 +17,4 @@ returns c =
     (field-then (bytes " metered_cost=") (decimal s.metered.cost) 20 (length-decimal s.metered.cost (search rules)) c.put_field-2.ensures 70
     (field-then (bytes " estimated_wh=") (decimal s.estimated.wh) 20 (length-decimal s.estimated.wh (search rules)) c.put_field-3.ensures 36
     (field-last (bytes " estimated_cost=") (decimal s.estimated.cost) 20 (length-decimal s.estimated.cost (search rules)) c.put_field-4.ensures))) c.requires in
-    record { printed = rw (then-fields (bytes " metered_wh=") s.metered.wh (bytes " metered_cost=") s.metered.cost _) w.0; upper_bound = w.1 }
+    (rw (then-fields (bytes " metered_wh=") s.metered.wh (bytes " metered_cost=") s.metered.cost _) w.0, w.1)

@@ -26,4 +26,4 @@ returns c =
     (field-then (bytes " balance=") (signed b.result) 20 (length-signed b.result b.type_inv) sum 27
     (field-then (bytes " plan=") (decimal p.result) 20 (length-decimal p.result p.type_inv) c.put_field-4.ensures 1
     (word-last c.put_bytes.ensures))))) c.requires in
-    record { printed = rw (b.ensures.totals, p.ensures.totals) at w.0; upper_bound = w.1 }
+    (rw (b.ensures.totals, p.ensures.totals) at w.0, w.1)

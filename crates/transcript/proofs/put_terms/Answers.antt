@@ -6,4 +6,4 @@ use Rattle.transcript.proofs.put_terms.Goals as goal
 pub returns : goal.returns
 returns c =
     let none : c.default.result ≡ no-totals = search rules in
-    rw (none, refusal-line c.args.code) at c.put_event.ensures.printed
+    rw (none, refusal-line c.args.code) at c.put_event.ensures.0

@@ -19,4 +19,4 @@ returns-in-Some c =
 pub returns-in-None : goal.returns-in-None
 returns-in-None c =
     let zeros : c.default.result ≡ zero_terms = search rules in
-    malformed-begun _ c.in-None.ensures _ (c.start-in-None.ensures ∙ ap (λ (k : ℕ). progress_of (fresh c.default.result) 0 0 k 0 false) c.code.ensures ∙ ap (λ (t : Terms). progress_of (fresh t) 0 0 15 0 false) zeros)
+    malformed-begun _ c.in-None.ensures _ (c.start-in-None.ensures ∙ ap (λ (k : ℕ). progress_of (fresh c.default.result) 0 0 k 0 false) c.from.ensures ∙ ap (λ (t : Terms). progress_of (fresh t) 0 0 15 0 false) zeros)

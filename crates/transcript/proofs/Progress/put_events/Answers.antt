@@ -52,20 +52,20 @@ pub loop-self-preserved : goal.loop-self-preserved
 loop-self-preserved c =
     let i = c.loop-self.invariant in
     let line = c.put_event-in-loop-self.ensures in
-    let wrote = rw (ap (λ (a : Answer). a.code) c.from.ensures, ap (λ (a : Answer). a.value) c.from.ensures) at line.printed.wrote in
+    let wrote = rw (ap (λ (a : Answer). a.code) c.from.ensures, ap (λ (a : Answer). a.value) c.from.ensures) at line.0.wrote in
     let e = rw (from-place c.args.text.now c.loop-self.self.at) at c.in-Some.ensures in (
-      line.printed.same ∙ i.0,
+      line.0.same ∙ i.0,
       i.1,
       i.2,
       turns _ _ _ _ _ _ _ _ _ _ i.3 _ _ (stepped_of c.post-answer.new.self c.post-answer.result) _ _ c.loop-self-test.true
           (next-event _ _ _ _ c.loop-self-test.true e.read) (omega (arith, e.shorter, length-drop c.loop-self.self.at c.args.text.now)) (omega arith)
-          c.if-page-lt-PIECE_ROOM.false c.post-answer.ensures wrote line.upper_bound,
+          c.if-page-lt-PIECE_ROOM.false c.post-answer.ensures wrote line.1,
     )
 
 pub put_last_line-requires : goal.put_last_line-requires
 put_last_line-requires c = elim c.loop-self-test.branch [
   | else-loop-self-test w ↦ rw w.page-is c.loop-self.invariant.3.room
-  | then-loop-self-test+else-page-lt-PIECE_ROOM+in_default w ↦ rw w.page-is (room_left w.if-page-lt-PIECE_ROOM.false w.put_event.ensures.printed.wrote w.put_event.ensures.upper_bound)
+  | then-loop-self-test+else-page-lt-PIECE_ROOM+in_default w ↦ rw w.page-is (room_left w.if-page-lt-PIECE_ROOM.false w.put_event.ensures.0.wrote w.put_event.ensures.1)
 ]
 
 pub returns : goal.returns
@@ -82,8 +82,8 @@ returns c =
       | then-loop-self-test+else-page-lt-PIECE_ROOM+in_default w ↦
           let v : Writes w.put_event.new.page _ p = rw w.page-is at c.put_last_line.ensures in
           let f = w.from-malformed.ensures in
-          let line = rw (ap (λ (a : Answer). a.code) f, ap (λ (a : Answer). a.value) f) at w.put_event.ensures.printed.wrote in
-          in-buffer p.out.now (search (rules, sym (v.same ∙ w.put_event.ensures.printed.same ∙ i.0)))
+          let line = rw (ap (λ (a : Answer). a.code) f, ap (λ (a : Answer). a.value) f) at w.put_event.ensures.0.wrote in
+          in-buffer p.out.now (search (rules, sym (v.same ∙ w.put_event.ensures.0.same ∙ i.0)))
           (left-as (record c.loop-self.self { done = true }) p.at true i.1 refl
           (stops _ _ _ _ _ _ _ _ i.3 r.0 r.1 r.2 r.3 _ _ _ _ w.loop-self-test.true w.if-page-lt-PIECE_ROOM.false (rw (from-place c.args.text.now c.loop-self.self.at) at w.in_default.ensures.read) line v.wrote))
     ]
