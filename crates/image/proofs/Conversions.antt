@@ -8,8 +8,7 @@ use lib.Dec.{leb, eqb, eqb-suc-zero}
 use borrow.Author.Tests.{eqb-true, leb-true}
 use Rattle.std.specs.Int.{from_bool}
 use Rattle.std.specs.List.{list_all}
-use Rattle.ledger.proofs.Cases.{both}
-use Rattle.moves.proofs.Ways.{yes}
+use Rattle.std.proofs.lemmas.Bool.{and_parts, cond-true}
 use Rattle.moves.specs.declared.Usage.{Usage}
 use Rattle.moves.specs.declared.Usage.TheVariants.{Blank, Estimated, Metered}
 use Rattle.account.specs.declared.Account.{Account}
@@ -36,7 +35,7 @@ module _ {A B : Type 0} (p : B → Bool) (f : A → B) (g : B → A) (h : Pair p
 
   all-forth : (l : List B) → list_all p l ≡ true → map f (map g l) ≡ l
   all-forth [] e = refl
-  all-forth (y ∷ l) e = let b = both (p y) (list_all p l) e in λ k. h.forth y b.0 k ∷ all-forth l b.1 k
+  all-forth (y ∷ l) e = let b = and_parts (p y) (list_all p l) e in λ k. h.forth y b.0 k ∷ all-forth l b.1 k
 
   lists : Pair (list_all p) (map f) (map g)
   lists = record { image = all-images; back = all_back; forth = all-forth }
@@ -79,7 +78,7 @@ numbers s wh cost = record { state = s; wh = wh; cost = cost }
 
 usage-forth : (s wh cost : ℕ) → is_day_image (numbers s wh cost) ≡ true → usage_image (usage_of (numbers s wh cost)) ≡ numbers s wh cost
 unfolding is_day_image usage_of
-usage-forth zero wh cost h = let b = both (eqb wh 0) (eqb cost 0) h in λ k. numbers 0 (sym (eqb-true wh 0 b.0) k) (sym (eqb-true cost 0 b.1) k)
+usage-forth zero wh cost h = let b = and_parts (eqb wh 0) (eqb cost 0) h in λ k. numbers 0 (sym (eqb-true wh 0 b.0) k) (sym (eqb-true cost 0 b.1) k)
 usage-forth (suc zero) wh cost h = refl
 usage-forth (suc (suc zero)) wh cost h = refl
 usage-forth (suc (suc (suc s))) wh cost h = absurd (omega (arith, leb-true (suc (suc (suc s))) 2 (rw (eqb-suc-zero (suc (suc s))) at h)))
@@ -127,7 +126,7 @@ account_by i = record { terms = i.terms; totals = totals_of i.totals; days = map
 
 account-is : (i : Image) → is_image i ≡ true → account_of i ≡ account_by i
 unfolding account_of
-account-is i h = yes (is_image i) _ _ h
+account-is i h = cond-true (is_image i) _ _ h
 
 record-back : (a : Account) → account_of (image_of a) ≡ a
 unfolding image_of
@@ -138,9 +137,9 @@ record-back a =
 image-back : (i : Image) → is_image i ≡ true → image_of (account_of i) ≡ i
 unfolding is_image image_of
 image-back i h =
-    let b = both (leb i.totals.on 1) (eqb i.spare 0 && (list_all is_day_image i.days && list_all is_payment_image i.payments)) h in
-    let z = both (eqb i.spare 0) (list_all is_day_image i.days && list_all is_payment_image i.payments) b.1 in
-    let d = both (list_all is_day_image i.days) (list_all is_payment_image i.payments) z.1 in
+    let b = and_parts (leb i.totals.on 1) (eqb i.spare 0 && (list_all is_day_image i.days && list_all is_payment_image i.payments)) h in
+    let z = and_parts (eqb i.spare 0) (list_all is_day_image i.days && list_all is_payment_image i.payments) b.1 in
+    let d = and_parts (list_all is_day_image i.days) (list_all is_payment_image i.payments) z.1 in
     ap image_of (account-is i h)
     ∙ (λ k. record { totals = totals-pair.forth i.totals b.0 k; terms = i.terms; days = days.forth i.days d.0 k; marks = i.marks; warned = i.warned; payments = payments.forth i.payments d.1 k; spare = sym (eqb-true i.spare 0 z.0) k; charges = i.charges })
 
