@@ -1,6 +1,6 @@
 -- What is read off the totals of an account that stands for a ledger is the ledger's.
 -- Assumes nothing.
-use mathlib.Core.Path.{◌≡◌, refl, sym, ap, ◌∙◌}
+use mathlib.Core.Path.{◌≡◌, sym, ap, ◌∙◌}
 use Prim.Native.Nat.{◌+◌}
 use lib.IntN.{ℤ, pos, ◌+ℤ◌}
 use Rattle.terms.specs.declared.Terms.{Terms}
@@ -12,9 +12,10 @@ use Rattle.ledger.proofs.Identity.{settled_is}
 use Rattle.moves.specs.declared.Totals.{Totals}
 use Rattle.account.specs.declared.Account.{Account}
 use Rattle.refinement.specs.Agree.{TotalsAgree, Represents}
+use Rattle.refinement.specs.Lists.{IsLedgers}
 use Rattle.refinement.proofs.Agreed.{Within, within}
 use Rattle.refinement.proofs.Lists.{made-represents}
-use Rattle.readings.specs.Readings.{balance_of, settled_of, IsReading, IsBalance, IsPlan, IsService, IsSettled, IsEstimates}
+use Rattle.readings.specs.Readings.{balance_of, settled_of, IsBalance, IsSettled}
 
 module _ (t : Terms) (a : Account) (l : Ledger) (q : Represents t a l) where
   abbrev s : Totals
@@ -39,21 +40,21 @@ module _ (t : Terms) (a : Account) (l : Ledger) (q : Represents t a l) where
 
 -- ---- so for every list that made the account
 
--- what is read off the totals of every account that stands for a ledger, is promised
-promised : {A : Type 0} (x : Totals → A) (f : Terms → Ledger → A) → ((t : Terms) (a : Account) (l : Ledger) → Represents t a l → x a.totals ≡ f t l) → (s : Totals) (r : A) → r ≡ x s → IsReading s (x s) f r
-promised x f g s r e = record { totals = e; ledgers = λ a h t es m. e ∙ ap x (sym h) ∙ g t a (ledger_of t es) (made-represents t es a m) }
+-- what is read off the totals of every account that stands for a ledger, is the ledger's of every list that made it
+read-off : {A : Type 0} (x : Totals → A) (f : Terms → Ledger → A) → ((t : Terms) (a : Account) (l : Ledger) → Represents t a l → x a.totals ≡ f t l) → (s : Totals) (a : Account) → a.totals ≡ s → IsLedgers a f (x s)
+read-off x f g s a h t es m = ap x (sym h) ∙ g t a (ledger_of t es) (made-represents t es a m)
 
-pub is-balance : (s : Totals) (r : ℤ) → r ≡ balance_of s → IsBalance s r
-is-balance = promised balance_of _ balance-reading
+pub is_plan : (s : Totals) (a : Account) → a.totals ≡ s → IsLedgers a (λ (t : Terms) (l : Ledger). l.plan) s.plan
+is_plan = read-off (λ (z : Totals). z.plan) _ (λ t a l q. q.agree.sums.plan)
 
-pub is-plan : (s : Totals) → IsPlan s s.plan
-is-plan s = promised (λ (z : Totals). z.plan) _ (λ t a l q. q.agree.sums.plan) s s.plan refl
+pub is_service : (s : Totals) (a : Account) → a.totals ≡ s → IsLedgers a (λ (t : Terms) (l : Ledger). l.on) s.on
+is_service = read-off (λ (z : Totals). z.on) _ (λ t a l q. q.agree.sums.on)
 
-pub is-service : (s : Totals) → IsService s s.on
-is-service s = promised (λ (z : Totals). z.on) _ (λ t a l q. q.agree.sums.on) s s.on refl
+pub is_estimates : (s : Totals) (a : Account) → a.totals ≡ s → IsLedgers a (λ (t : Terms) (l : Ledger). sums.standing_cost t l.list) s.standing
+is_estimates = read-off (λ (z : Totals). z.standing) _ (λ t a l q. q.agree.sums.standing)
 
-pub is-settled : (s : Totals) (r : ℤ) → r ≡ settled_of s → IsSettled s r
-is-settled = promised settled_of _ settled-reading
+pub is_balance : (s : Totals) (r : ℤ) → r ≡ balance_of s → IsBalance s r
+is_balance s r e = record { totals = e; ledgers = λ a h t es m. e ∙ read-off balance_of _ balance-reading s a h t es m }
 
-pub is-estimates : (s : Totals) → IsEstimates s s.standing
-is-estimates s = promised (λ (z : Totals). z.standing) _ (λ t a l q. q.agree.sums.standing) s s.standing refl
+pub is_settled : (s : Totals) (r : ℤ) → r ≡ settled_of s → IsSettled s r
+is_settled s r e = record { totals = e; ledgers = λ a h t es m. e ∙ read-off settled_of _ settled-reading s a h t es m }

@@ -3,7 +3,7 @@ use Rattle.std.specs.Prelude.{ℕ, ◌+◌, ◌≡◌, Bool, cond, ◌&&◌, leb
 use Rattle.terms.specs.declared.Terms.{Terms}
 use Rattle.ledger.specs.Rules.{Ledger}
 use Rattle.ledger.specs.Sums as sums
-use Rattle.moves.specs.Moves.{max_total}
+use Rattle.moves.specs.Moves.{max_total, is_in_range}
 use Rattle.moves.specs.declared.Totals.{Totals}
 use Rattle.account.specs.declared.Account.{Account}
 use Rattle.refinement.specs.Lists.{IsLedgers}
@@ -15,10 +15,7 @@ balance_of s = cond (leb s.credit max_total && leb s.debit max_total) (pos s.cre
 -- the settled amount by the totals alone: the balance less the unpaid plan, plus the standing estimates' cost; 0 where they are past any
 -- account's
 unfoldable pub settled_of : Totals → ℤ
-settled_of s =
-    cond (leb s.credit max_total && (leb s.debit max_total && (leb s.plan max_total && leb s.standing max_total)))
-    (pos (s.credit + s.standing) -ℤ pos (s.debit + s.plan))
-    (pos 0)
+settled_of s = cond (is_in_range s) (pos (s.credit + s.standing) -ℤ pos (s.debit + s.plan)) (pos 0)
 
 -- A reading call promises x of the totals s, and in the ledger's terms: what f reads off the ledger, for every list of events that made an
 -- account with these totals.

@@ -2,13 +2,9 @@ use Rattle.std.proofs.Common.{arith}
 use Rattle.std.proofs.lemmas.Grind.{common_steps}
 use Rattle.std.proofs.lemmas.Bool.Decides.{leb_tells}
 use Rattle.readings.specs.Readings.{settled_of}
-use Rattle.readings.proofs.After.{is-settled}
+use Rattle.readings.proofs.After.{is_settled}
 use Rattle.readings.proofs.settled.Goals as goal
 
-pub returns-then-s-le-MAX_TOTAL-4 : goal.returns-then-s-le-MAX_TOTAL-4
+pub returns-then-is_in_range : goal.returns-then-is_in_range
 unfolding settled_of
-returns-then-s-le-MAX_TOTAL-4 c = is-settled _ _ (grind (arith, common_steps, leb_tells))
-
-pub returns-else-s-le-MAX_TOTAL : goal.returns-else-s-le-MAX_TOTAL
-unfolding settled_of
-returns-else-s-le-MAX_TOTAL c = is-settled _ _ (let h = c.else-s-le-MAX_TOTAL.either in grind (arith, leb_tells))
+returns-then-is_in_range c = is_settled _ _ (grind (arith, common_steps, leb_tells))
