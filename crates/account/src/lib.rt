@@ -1,5 +1,6 @@
-// The account record and its step by value.
-// It uses the calendar, the terms, the marks, the moves and the ledger's event. Its promises cite specs/Step.antt.
+// The account record, and its step: in place, and by value.
+// It uses the calendar, the terms, the marks, the moves, and the ledger's event and refusals. Its promises cite specs/Step.antt and
+// specs/Record.antt. A place is a `usize` by `as`, which has no `From`.
 #![tactic(auto)]
 
 ghost use Rattle.std.specs.Prelude.{◌≡◌};
@@ -25,7 +26,7 @@ pub struct Account {
     pub days: UsageDays,
     // one bit a mark kind
     pub marks: DayBytes,
-    // 1 on the days of accepted warnings
+    // 1 on the days of accepted warnings, else 0: C's record has a byte a day
     pub warned: DayBytes,
     pub payments: Payments,
     pub charges: Charges,
@@ -89,7 +90,7 @@ pub fn open(t: Terms) -> Result<Account, Refusal>
     }
 }
 
-// The record after an event, and the answer to it.
+// The account after an event, as a record or as numbers, and the answer to the event.
 #[derive(Clone, Copy)]
 pub struct Posted<R> {
     pub account: R,

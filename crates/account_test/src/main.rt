@@ -37,7 +37,7 @@ const SORTS: [&str; 11] = [
     "connect",
 ];
 
-// ---- lines
+// ---- what a line says
 
 // The first numbers of a line; 0 for what is no number of 32 bits, and past the line's end.
 fn numbers<const N: usize>(line: &str) -> [u32; N] {
@@ -98,6 +98,7 @@ fn event(word: &str, line: &str) -> Option<Event> {
         return Some(any_event(line));
     }
     let place = SORTS.iter().position(|sort| *sort == word)?;
+    // a place below 11, or a length: `usize` has no `From`
     Some(named_event(place as u32 + 1, line))
 }
 
@@ -113,20 +114,6 @@ fn way_of(line: &str) -> Way {
     Way::Once
 }
 
-// ---- answers
-
-fn say_sums(rt: &impl Print, s: Totals) -> io::Result<()> {
-    print!(rt; " {} {}", readings::balance(s), readings::plan(s))
-}
-
-// Service and the other readings.
-fn say_readings(rt: &impl Print, s: Totals) -> io::Result<()> {
-    let service = if readings::service(s) { "on" } else { "off" };
-    print!(rt; " {service}")?;
-    say_sums(rt, s)?;
-    print!(rt; " {} {}", readings::settled(s), readings::estimates(s))
-}
-
 // The totals that are asked: after a refusal those before it; an accepted event counts once, by its day, and as a payment if it is a pay.
 fn asked(code: u8, e: Event, before: Totals, after: Totals) -> Totals {
     if code != 0 {
@@ -137,80 +124,6 @@ fn asked(code: u8, e: Event, before: Totals, after: Totals) -> Totals {
         events: before.events.saturating_add(1),
         last: e.day,
         ..after
-    }
-}
-
-fn compare(rt: &impl Print, s: Totals, t: Totals) -> io::Result<()> {
-    if s == t {
-        return Ok(());
-    }
-    print!(rt; " with other totals")
-}
-
-// ---- what a line does to an account
-
-// Where the terms are refused there is no account: each event of the record gets 1. A fresh account has every total 0, and service off.
-fn opened(rt: &impl Print, a: &mut Account, t: Terms, is_case: bool) -> io::Result<()> {
-    let opening = account::open(t);
-    *a = opening.unwrap_or(Account::fresh(t));
-    if !is_case {
-        return Ok(());
-    }
-    print!(rt; " {}", code(opening))?;
-    compare(rt, a.totals, Totals::default())
-}
-
-// One event is posted by value, and is held to its value too, and to the totals after it.
-fn posted_once(rt: &impl Print, a: &mut Account, e: Event, is_case: bool) -> io::Result<()> {
-    let before = a.totals;
-    let p = posting::post_by_value(*a, e);
-    *a = p.account;
-    if !is_case {
-        return Ok(());
-    }
-    let code = code(p.answer);
-    print!(rt; " {code} {}", p.answer.unwrap_or(0))?;
-    say_sums(rt, a.totals)?;
-    compare(rt, a.totals, asked(code, e, before, a.totals))
-}
-
-// Posts n events, and one at least. What is said is the code, or 99, which no line asks, where the codes differ; and the balance and the plan
-// after the last.
-fn posted_often<F: Fn(u32) -> Event>(
-    rt: &impl Print,
-    a: &mut Account,
-    n: u32,
-    event: F,
-    is_case: bool,
-) -> io::Result<()>
-    requires { F.IsAlwaysCallable event }
-{
-    let first = posting::post(a, event(0));
-    let mut all_same = true;
-    for i in 1..n {
-        let answer = posting::post(a, event(i));
-        all_same = all_same && code(answer) == code(first);
-    }
-    if !is_case {
-        return Ok(());
-    }
-    let code = if all_same { code(first) } else { 99 };
-    print!(rt; " {code}")?;
-    say_sums(rt, a.totals)
-}
-
-fn posted(rt: &impl Print, a: &mut Account, e: Event, way: Way, is_case: bool) -> io::Result<()> {
-    match way {
-        Way::Once => posted_once(rt, a, e, is_case),
-        Way::Times(n) => posted_often(rt, a, n, |_| e, is_case),
-        Way::Each(n) => {
-            let numbered = |i: u32| Event {
-                number: i,
-                usage: i,
-                ..e
-            };
-            posted_often(rt, a, n, numbered, is_case)
-        }
     }
 }
 
@@ -233,40 +146,141 @@ fn five() -> [Event; 5] {
     [of(1, 6000), of(11, 0), of(3, 0), of(1, 4000), of(11, 0)]
 }
 
-// A row of five events or of none, and a buffer of so many bytes, 8 at most, each of them 7.
-fn row_posted(rt: &impl Print, a: &mut Account, line: &str) -> io::Result<()> {
-    let [events, bytes] = numbers::<2>(line);
-    let mut buffer = [7; 8];
-    let Some(codes) = buffer.get_mut(..bytes as usize) else {
-        return Ok(());
-    };
-    let answer = if events == 0 {
-        row_of(a, [], codes)
-    } else {
-        row_of(a, five(), codes)
-    };
-    print!(rt; " {}", code(answer))?;
-    for code in codes {
-        print!(rt; " {code}")?;
+// ---- a line
+
+// A line: the account that it is for, whether it is a case, and where a case's answers go.
+#[derive(Drop)]
+struct Line<'a, P> {
+    rt: &'a P,
+    account: &'a mut Account,
+    is_case: bool,
+}
+
+impl<P: Print> Line<'_, P> {
+    fn say_sums(&self) -> io::Result<()> {
+        let s = self.account.totals;
+        print!(self.rt; " {} {}", readings::balance(s), readings::plan(s))
     }
-    print!(rt; " {} {}", a.totals.count, a.totals.events)?;
-    say_readings(rt, a.totals)
+
+    // Service and the other readings.
+    fn say_readings(&self) -> io::Result<()> {
+        let s = self.account.totals;
+        let service = if readings::service(s) { "on" } else { "off" };
+        print!(self.rt; " {service}")?;
+        self.say_sums()?;
+        print!(self.rt; " {} {}", readings::settled(s), readings::estimates(s))
+    }
+
+    fn compare(&self, s: Totals) -> io::Result<()> {
+        if self.account.totals == s {
+            return Ok(());
+        }
+        print!(self.rt; " with other totals")
+    }
+
+    // Where the terms are refused there is no account: each event of the record gets 1. A fresh account has every total 0, and service off.
+    fn open(&mut self, t: Terms) -> io::Result<()> {
+        let opening = account::open(t);
+        *self.account = opening.unwrap_or(Account::fresh(t));
+        if !self.is_case {
+            return Ok(());
+        }
+        print!(self.rt; " {}", code(opening))?;
+        self.compare(Totals::default())
+    }
+
+    // One event is posted by value, and is held to its value too, and to the totals after it.
+    fn post_once(&mut self, e: Event) -> io::Result<()> {
+        let before = self.account.totals;
+        let p = posting::post_by_value(*self.account, e);
+        *self.account = p.account;
+        if !self.is_case {
+            return Ok(());
+        }
+        let code = code(p.answer);
+        print!(self.rt; " {code} {}", p.answer.unwrap_or(0))?;
+        self.say_sums()?;
+        self.compare(asked(code, e, before, self.account.totals))
+    }
+
+    // Posts n events, and one at least. What is said is the code, or that the codes differ, which no line asks; and the balance and the plan
+    // after the last.
+    fn post_often<F: Fn(u32) -> Event>(&mut self, n: u32, event: F) -> io::Result<()>
+        requires { F.IsAlwaysCallable event }
+    {
+        let first = code(posting::post(self.account, event(0)));
+        let mut all_same = true;
+        for i in 1..n {
+            let next = code(posting::post(self.account, event(i)));
+            all_same = all_same && next == first;
+        }
+        if !self.is_case {
+            return Ok(());
+        }
+        if all_same {
+            print!(self.rt; " {first}")?;
+        } else {
+            print!(self.rt; " codes that differ")?;
+        }
+        self.say_sums()
+    }
+
+    fn post(&mut self, e: Event, way: Way) -> io::Result<()> {
+        match way {
+            Way::Once => self.post_once(e),
+            Way::Times(n) => self.post_often(n, |_| e),
+            Way::Each(n) => {
+                let numbered = |i: u32| Event {
+                    number: i,
+                    usage: i,
+                    ..e
+                };
+                self.post_often(n, numbered)
+            }
+        }
+    }
+
+    // A row of five events or of none, and a buffer of so many bytes, 8 at most, each of them 7.
+    fn post_row(&mut self, line: &str) -> io::Result<()> {
+        let [events, bytes] = numbers::<2>(line);
+        let mut buffer = [7; 8];
+        let Some(codes) = buffer.get_mut(..bytes as usize) else {
+            return Ok(());
+        };
+        let answer = if events == 0 {
+            row_of(self.account, [], codes)
+        } else {
+            row_of(self.account, five(), codes)
+        };
+        print!(self.rt; " {}", code(answer))?;
+        for code in codes {
+            print!(self.rt; " {code}")?;
+        }
+        let s = self.account.totals;
+        print!(self.rt; " {} {}", s.count, s.events)?;
+        self.say_readings()
+    }
 }
 
 // ---- the text
 
 // A part of the text: a line, or a case up to its colon. A remark and a heading begin with no word.
-fn one(rt: &impl Print, a: &mut Account, part: &[u8]) -> io::Result<()> {
+fn one(rt: &impl Print, account: &mut Account, part: &[u8]) -> io::Result<()> {
     rt.write_all(part)?;
     let is_case = part.ends_with(b":");
     let line = str::from_utf8(part).unwrap_or("").trim_end();
     let (word, rest) = line.split_once(' ').unwrap_or((line, ""));
+    let mut line = Line {
+        rt,
+        account,
+        is_case,
+    };
     match word {
-        "terms" => opened(rt, a, terms(rest), is_case),
-        "row" => row_posted(rt, a, rest),
-        "totals" => say_readings(rt, a.totals),
+        "terms" => line.open(terms(rest)),
+        "row" => line.post_row(rest),
+        "totals" => line.say_readings(),
         _ => match event(word, rest) {
-            Some(e) => posted(rt, a, e, way_of(rest), is_case),
+            Some(e) => line.post(e, way_of(rest)),
             None => Ok(()),
         },
     }
@@ -276,9 +290,9 @@ fn one(rt: &impl Print, a: &mut Account, part: &[u8]) -> io::Result<()> {
 fn main(rt: HostRuntime) -> io::Result<()> {
     let mut text = Vec::new(rt.alloc());
     rt.reader().take(65536).read_to_end(&mut text)?;
-    let mut a = Account::fresh(Terms::default());
+    let mut account = Account::fresh(Terms::default());
     for part in text.split_inclusive(|byte| matches!(*byte, b'\n' | b':')) {
-        one(&rt, &mut a, part)?;
+        one(&rt, &mut account, part)?;
     }
     Ok(())
 }

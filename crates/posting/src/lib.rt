@@ -1,5 +1,6 @@
 // The posting calls over a lent account: one event, and a row of events.
-// It uses the account's step and the ledger's event. Its promises cite specs/Posting.antt: by the step, and in the ledger's terms.
+// It uses the account's step, and the ledger's event and refusals. Its promises cite specs/Posting.antt: by the step, and, through the refinement,
+// in the ledger's terms.
 #![tactic(auto)]
 
 ghost use Rattle.ledger.specs.Refusals.{code_of, answer_record};
@@ -34,7 +35,7 @@ pub fn post_row(a: &mut Account, row: &[Event], codes: &mut [u8]) -> Result<(), 
     if codes.len() < row.len() {
         return Err(Refusal::Buffer);
     }
-    // The codes are written by index: of a slice's `iter_mut` a proof knows only the length.
+    // The codes are written by index: `zip` with `iter_mut` keeps only the length for a proof.
     for (i, event) in row.iter().enumerate() {
         let p = step(*a, *event);
         *a = p.account;
