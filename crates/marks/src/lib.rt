@@ -7,10 +7,11 @@ ghost use Rattle.marks.specs.Marks.{mark_bit, day_before, marked, barring_on, la
 
 use calendar::{DAY_COUNT, FINAL_DAY, SATURDAY, SUNDAY, WARNING_DAYS};
 
-// A byte for each day: of marks, which may hold together, so that setting one is an or and testing is a mask; or of warnings, 0 or 1.
+// A byte for each day: of marks, as document 01 names the form ("One byte per day; setting a mark is an or with its bit, barred is a mask
+// test"); or of warnings, 0 or 1, which is a byte in C's record too.
 pub type DayBytes = [u8; DAY_COUNT as usize];
 
-// The bit of a mark kind in a day's byte. A kind is a number, as in an event, and any other number has no bit.
+// The bit of a mark kind in a day's byte. A kind is an event's number, of which C hands in any; one that is no kind has no bit.
 fn mark_bit(kind: u32) -> u8
     ensures { result ≡ mark_bit kind }
 {
@@ -23,16 +24,16 @@ fn mark_bit(kind: u32) -> u8
 }
 
 // Sets the kind's mark from day `from` to day `to`.
-#[tactic(auto, using(crate::proofs::Turns::mark_turn, crate::proofs::Turns::mark_none), unfolding(crate::specs::Marks::marked))]
+#[tactic(auto, using(crate::proofs::Turns::mark_none), unfolding(crate::specs::Marks::marked))]
 pub fn set(marks: &mut DayBytes, kind: u32, from: u32, to: u32)
     ensures { marks.new ≡ marked marks.old kind from to }
 {
-    if to > FINAL_DAY {
+    if to > FINAL_DAY || from > to {
         return;
     }
     let bit = mark_bit(kind);
-    for d in from..=to {
-        marks[d as usize] |= bit;
+    for byte in marks[from as usize..=to as usize].iter_mut() {
+        *byte |= bit;
     }
 }
 
@@ -44,7 +45,8 @@ pub fn barring(marks: &DayBytes, day: u32) -> bool
     day <= FINAL_DAY && marks[day as usize] & 7 != 0
 }
 
-// The newest warning of the seven days before the day, by a backward loop that yields it by `break` (docs/DECISIONS.md names that form).
+// The newest warning of the seven days before the day. Document 01 names the form: "Backward loop over seven days that yields the found day
+// by break, or none."
 #[tactic(auto, using(crate::proofs::Turns::latest_end, crate::proofs::Turns::latest_turn, crate::proofs::Turns::latest_past, crate::proofs::Turns::latest_back), unfolding(crate::specs::Marks::latest_warning))]
 pub fn latest(warned: &DayBytes, day: u32) -> Option<u32>
     ensures { result ≡ latest_warning warned.now day }
@@ -74,7 +76,7 @@ fn day_before(weekday: u32) -> u32
 
 // Whether a weather day lies so near before or on the day that at most one business day has come since.
 // The day's weekday is any number, as callers may give one: a `Weekday` would ask more of them.
-#[tactic(auto, using(crate::proofs::Turns::near_here, crate::proofs::Turns::near_first, crate::proofs::Turns::near_spent, crate::proofs::Turns::near_weekend, crate::proofs::Turns::near_workday), unfolding(crate::specs::Marks::weather_near))]
+#[tactic(auto, unfolding(crate::specs::Marks::weather_near))]
 pub fn weather_near(marks: &DayBytes, weekday: u32, day: u32) -> bool
     ensures { result ≡ weather_near marks.now weekday day }
 {
@@ -83,8 +85,8 @@ pub fn weather_near(marks: &DayBytes, weekday: u32, day: u32) -> bool
     }
     let mut w = weekday;
     let mut left: u32 = 1;
-    for d in (0..=day).rev() {
-        if marks[d as usize] & 1 != 0 {
+    for byte in marks[..=day as usize].iter().rev() {
+        if *byte & 1 != 0 {
             return true;
         }
         if w < SATURDAY {
