@@ -96,7 +96,8 @@ fn days_before(leap: bool, month: u32) -> u32
     requires { month ≤ 12 }
     ensures { result ≡ days_before leap month }
 {
-    BEFORE[month as usize] + (leap && month > 2) as u32
+    // `as`, since u32 has no `From` into usize
+    BEFORE[month as usize] + u32::from(leap && month > 2)
 }
 
 // The days from 2000-01-01 to 1 January of the year n years later: 2100 is no leap year.
@@ -105,7 +106,7 @@ fn years_before(n: u32) -> u32
     requires { n ≤ end_year + 1 - first_year }
     ensures { result ≡ total length_after (12 * n) }
 {
-    n * 365 + (n + 3) / 4 - (n > 100) as u32
+    n * 365 + (n + 3) / 4 - u32::from(n > 100)
 }
 
 // The days from 2000-01-01 to the first of the month i months after January 2000.
@@ -183,7 +184,7 @@ impl Date {
         (1..=month_length(self.year, self.month)).contains(&self.day)
     }
 
-    // The day after.
+    // The day after. A record out of reach is answered itself, since it could not fail before.
     #[tactic(auto, using(crate::proofs::Laws::reached), unfolding(crate::specs::Calendar::next_of))]
     pub fn next(self) -> Date
         ensures { result ≡ next_answer self }
@@ -222,13 +223,13 @@ impl Date {
         Some(weekday_after(days_after(self)))
     }
 
-    // The number of the date's month, counted from that of the opening date.
+    // The number of the date's month, counted from that of the opening date; 0 of an earlier one, since it could not fail before.
     #[tactic(auto, unfolding(crate::specs::Calendar::month_from))]
     pub fn month_from(self, opened: Date) -> u64
         ensures { result ≡ month_from opened self }
     {
-        let at = 12 * self.year as u64 + self.month as u64;
-        at.saturating_sub(12 * opened.year as u64 + opened.month as u64)
+        let at = 12 * u64::from(self.year) + u64::from(self.month);
+        at.saturating_sub(12 * u64::from(opened.year) + u64::from(opened.month))
     }
 }
 
@@ -293,7 +294,7 @@ pub fn weekday_of(opened: Date, k: u32) -> Option<Weekday>
     date_of(opened, k)?.weekday()
 }
 
-// The number of day k's month, 0 for the opening month to 14.
+// The number of day k's month, 0 for the opening month to 14, so that `as` loses nothing.
 #[tactic(auto, using(crate::proofs::Laws::answer_month))]
 pub fn month_of(opened: Date, k: u32) -> Option<u32>
     ensures { result ≡ month_answer opened k }

@@ -8,7 +8,7 @@ ghost use Rattle.marks.specs.Marks.{mark_bit, day_before, marked, barring_on, la
 use calendar::{DAY_COUNT, FINAL_DAY, SATURDAY, SUNDAY, WARNING_DAYS};
 
 // A byte for each day: of marks, as document 01 names the form ("One byte per day; setting a mark is an or with its bit, barred is a mask
-// test"); or of warnings, 0 or 1, which is a byte in C's record too.
+// test"); or of warnings, 0 or 1, which is a byte in C's record too. A day is cast to an index, since u32 has no `From` into usize.
 pub type DayBytes = [u8; DAY_COUNT as usize];
 
 // The bit of a mark kind in a day's byte. A kind is an event's number, of which C hands in any; one that is no kind has no bit.

@@ -21,7 +21,7 @@ answered : (o d : Date) (k : ℕ) → opens o ≡ true → is_in_reach d ≡ tru
 answered o d k t r e =
     let day = day-real o (opens-real o t).real k in
     decide (leb k 399)
-    (λ h. simp h (simp (t, h), same-day (date_on o k) d day.real (reached-real d r).real (day.later ∙ sym e)))
+    (λ h. simp h (simp t, same-day (date_on o k) d day.real (reached-real d r).real (day.later ∙ sym e)))
     (λ f. simp f (λ j i s. omega (arith, leb-false k 399 f, difference o d j i s, (day-limits o j i).limit)))
 
 pub returns-then-not-can_open : goal.returns-then-not-can_open
