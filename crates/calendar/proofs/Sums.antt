@@ -1,4 +1,4 @@
--- A test of all numbers below a limit, and the sums `total f n` of `specs/Calendar.antt`. Assumes nothing.
+-- Tests of all and of any numbers below a limit, and the sums `total f n` of `specs/Calendar.antt`. Assumes nothing.
 use mathlib.Core.Path.{◌≡◌, refl, ap, subst⁻¹}
 use mathlib.Core.Bool.{Bool, true, false, ◌&&◌, false≢true}
 use mathlib.Core.Logic.{inl, inr}
@@ -9,6 +9,7 @@ use lib.Dec.{leb}
 use borrow.Author.Tests.{leb-true, leb-false}
 use Rattle.std.proofs.lemmas.Bool.{and_parts}
 use Rattle.calendar.specs.Calendar.{total}
+use Rattle.calendar.specs.Days.{any_day}
 
 -- each way a test can come out
 pub decide : {X : Type 0} (b : Bool) → (b ≡ true → X) → (b ≡ false → X) → X
@@ -39,6 +40,18 @@ every-at p (suc n) e k h = elim (eq-or-lt_of_le (le_of_suc-le-suc h)) [
   | inl s ↦ subst⁻¹ (λ (j : ℕ). p j ≡ true) s (and_parts (p n) (every p n) e).0
   | inr l ↦ every-at p n (and_parts (p n) (every p n) e).1 k l
 ]
+
+-- ---- the test of any of them
+
+pub any_none : (p : ℕ → Bool) (n : ℕ) → ((k : ℕ) → k < n → p k ≡ false) → any_day p n ≡ false
+unfolding any_day
+any_none p zero h = refl
+any_none p (suc n) h = simp (h n (omega arith)) (any_none p n (λ k l. h k (omega arith)))
+
+pub any_same : (p q : ℕ → Bool) (n : ℕ) → ((k : ℕ) → k < n → p k ≡ q k) → any_day p n ≡ any_day q n
+unfolding any_day
+any_same p q zero h = refl
+any_same p q (suc n) h = rw (h n (omega arith), any_same p q n (λ k l. h k (omega arith)))
 
 -- ---- sums
 

@@ -44,7 +44,7 @@ pub enum Weekday {
     Sunday,
 }
 
-// The weekdays' numbers: Monday is 0.
+// The weekdays' numbers: Monday is 0. (By `as`, as a constant calls no `from`.)
 pub const SATURDAY: u32 = Weekday::Saturday as u32;
 
 pub const SUNDAY: u32 = Weekday::Sunday as u32;

@@ -11,7 +11,7 @@ use lib.Dec.{ltb, leb, eqb, leb-zero, leb-suc-zero, leb-suc-suc, eqb-suc-zero}
 use lib.Bits.{bit_and, bit_or}
 use borrow.Author.Tests.{ltb-true, ltb-false, leb-true, leb-false, eqb-true, eqb-false, lt-ltb, le-ltb, le-leb, lt-leb, ne_eqb}
 use Rattle.calendar.specs.Days.{any_day, count_days}
-use Rattle.calendar.proofs.Sums.{decide}
+use Rattle.calendar.proofs.Sums.{decide, any_none, any_same}
 use Rattle.marks.specs.Marks.{is_missing, mark_bit, mark_range, latest_of, day_before, business_left, near_of, marked, latest_warning, weather_near}
 
 -- ---- setting a mark
@@ -101,16 +101,6 @@ any_near weather business x = near_by weather business x 1
 any_step : (p : ℕ → Bool) (n : ℕ) → any_day p (suc n) ≡ (p n || any_day p n)
 unfolding any_day
 any_step p n = refl
-
-any_none : (p : ℕ → Bool) (n : ℕ) → ((w : ℕ) → w < n → p w ≡ false) → any_day p n ≡ false
-unfolding any_day
-any_none p zero h = refl
-any_none p (suc n) h = simp (h n (omega arith)) (any_none p n (λ w a. h w (omega arith)))
-
-any_same : (p q : ℕ → Bool) (n : ℕ) → ((w : ℕ) → w < n → p w ≡ q w) → any_day p n ≡ any_day q n
-unfolding any_day
-any_same p q zero h = refl
-any_same p q (suc n) h = rw (h n (omega arith), any_same p q n (λ w a. h w (omega arith)))
 
 none-since : (business : ℕ → Bool) (w n : ℕ) → n ≤ suc w → count_days (λ (d : ℕ). ltb w d && business d) n ≡ 0
 unfolding count_days

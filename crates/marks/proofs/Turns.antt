@@ -1,4 +1,4 @@
--- One turn of each loop, at the code's `d + 1` and `d - 1`. Assumes nothing.
+-- One turn of each loop. Assumes nothing.
 use mathlib.Core.Path.{◌≡◌, refl, sym, ◌∙◌, ap}
 use mathlib.Core.Bool.{Bool, true, false, cond, not, ◌&&◌, ◌||◌, or-false, and-false}
 use mathlib.Core.List.{List, [], ◌∷◌, ◌++◌}
