@@ -33,7 +33,7 @@ use Rattle.refinement.proofs.Lists.{represents-fresh, represents-after, opened-v
 use Rattle.posting.specs.Posting.{answer_of, row_of}
 use Rattle.posting.proofs.Ledgers.{answer_back, row_back, row-account, posts, posts-row}
 use Rattle.readings.specs.Readings.{balance_of, settled_of}
-use Rattle.readings.proofs.After.{balance-reading, settled-reading, is-balance, is-plan, is-service, is-settled, is-estimates}
+use Rattle.readings.proofs.After.{balance-reading, settled-reading, is_balance, is_plan, is_service, is_settled, is_estimates}
 use Rattle.demand.specs.Calls.{Readings, Seen, ShowsReadings, Called, RunsFrom}
 use Rattle.demand.specs.Demand3.{shows, codes_in, CallHolds, CallsHold, Demand3}
 
@@ -125,11 +125,11 @@ read a = record { balance = balance_of a.totals; plan = a.totals.plan; on = a.to
 reads : (a : Account) → ShowsReadings a.totals (read a)
 unfolding read
 reads a = record {
-  balance = is-balance a.totals _ refl;
-  plan = is-plan a.totals;
-  on = is-service a.totals;
-  settled = is-settled a.totals _ refl;
-  standing = is-estimates a.totals;
+  balance = is_balance a.totals _ refl;
+  plan = record { totals = refl; ledgers = is_plan a.totals };
+  on = record { totals = refl; ledgers = is_service a.totals };
+  settled = is_settled a.totals _ refl;
+  standing = record { totals = refl; ledgers = is_estimates a.totals };
 }
 
 runs_of : (cs : List Call) (a : Account) → (vs : List Seen) × RunsFrom a cs vs
