@@ -2,4 +2,3 @@ pub mod Arms
 pub mod Cost
 pub mod Early
 pub mod Places
-pub mod Ways

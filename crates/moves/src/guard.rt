@@ -39,6 +39,7 @@ impl<'a> Checked<'a> {
         if s.events >= MAX_EVENTS {
             return Err(Refusal::Full);
         }
+        // A number past the payments is looked at by its remainder: a sort that names it refuses it.
         let before = Move {
             value: 0,
             totals: s,

@@ -157,8 +157,7 @@ impl Checked<'_> {
     }
 }
 
-// The move of an event over the cells, or its refusal. A number past the payments, or a day past the account's, is looked at by its remainder:
-// a sort that names the field refuses it.
+// The move of an event over the cells, or its refusal.
 #[tactic(auto, using(crate::proofs::Places::is_move), unfolding(crate::specs::Moves::cells_before, crate::specs::Moves::move_of))]
 pub fn move_of(cells: Cells, e: Event) -> Result<Move, Refusal>
     ensures { let c = cells.entry in
