@@ -21,7 +21,8 @@ use Rattle.ledger.specs.Entries.{Entry, Entries, amount_of, or_zero, payment_cou
 use Rattle.ledger.specs.Rules.{Ledger}
 use Rattle.ledger.specs.Ledger.{ledger_of}
 use Rattle.ledger.specs.Months.{month_of, in_month, has_days, payments_in, usage_in, metered_wh_of, metered_cost_of, estimated_wh_of, charges_in, no_summary, ledger_summary}
-use Rattle.ledger.proofs.Cases.{decide, both}
+use Rattle.std.proofs.lemmas.Bool.{and_parts}
+use Rattle.ledger.proofs.Cases.{decide}
 use Rattle.moves.specs.declared.Payment.{Payment}
 use Rattle.moves.specs.Moves.{is_account, early_code, cells_before, move_of}
 use Rattle.account.specs.Step.{step_of}
@@ -31,12 +32,13 @@ use Rattle.refinement.specs.Agree.{Agree, recorded_usage, recorded_payment}
 use Rattle.refinement.proofs.Agreed.{is-account}
 use Rattle.refinement.proofs.Lists.{made-represents}
 use Rattle.months.specs.Summary.{in_month_of, payment_kept, payment_reversed, payments_by, one, payment_amount, state_of, usage_by, summary_by, summary_of, IsSummary}
-use Rattle.months.proofs.Sums.{total-same, any_same, any_none}
+use Rattle.calendar.proofs.Sums.{any_none, any_same}
+use Rattle.months.proofs.Sums.{total-same}
 use Rattle.months.proofs.Numbers.{by_number, Dated, dated-after}
 
 valid-opens : (t : Terms) → valid_terms t ≡ true → opens t.opened ≡ true
 unfolding valid_terms
-valid-opens t v = (both (opens t.opened) _ v).0
+valid-opens t v = (and_parts (opens t.opened) _ v).0
 
 state-is : (u : UsageDay) → state_of (recorded_usage u) ≡ u
 state-is blank = refl

@@ -17,7 +17,8 @@ use Rattle.moves.specs.Moves.{is_account}
 use Rattle.account.specs.declared.Account.{Account}
 use Rattle.months.specs.Summary.{in_month_of, payment_kept, payment_reversed, counted_by, metered_by, estimated_by, charges_of, figures_by, summary_by, summary_of}
 use Rattle.months.specs.Work.{span}
-use Rattle.months.proofs.Sums.{any_none, any_some}
+use Rattle.calendar.proofs.Sums.{any_none}
+use Rattle.months.proofs.Sums.{any_some}
 
 inside : (r : Range ℕ) (k : ℕ) → r.start ≤ k → k < r.end → span r k ≡ true
 inside r k h g = simp (le-leb r.start k h, lt-ltb k r.end g)

@@ -3,7 +3,7 @@
 use Prim.Native.Nat.{ℕ, zero, suc, ◌+◌, ◌≤◌, ◌<◌}
 use native.Mathlib.Omega.{arith}
 use mathlib.Core.Path.{◌≡◌, refl}
-use mathlib.Core.Bool.{Bool, true, false, or-true}
+use mathlib.Core.Bool.{Bool, true, or-true}
 use lib.Dec.{eqb}
 use borrow.Author.Tests.{eqb-true, eqb-false}
 use Rattle.ledger.proofs.Cases.{decide}
@@ -27,16 +27,6 @@ total-rest f m zero h = let e : m + 0 ≡ m = omega arith in rw e
 total-rest f m (suc n) h =
     let e : m + suc n ≡ suc (m + n) = omega arith in
     rw e (omega (arith, h (m + n) (omega arith), total-rest f m n h))
-
-pub any_same : (p q : ℕ → Bool) (n : ℕ) → ((k : ℕ) → k < n → p k ≡ q k) → any_day p n ≡ any_day q n
-unfolding any_day
-any_same p q zero h = refl
-any_same p q (suc n) h = rw (h n (omega arith), any_same p q n (λ k b. h k (omega arith)))
-
-pub any_none : (p : ℕ → Bool) (n : ℕ) → ((k : ℕ) → k < n → p k ≡ false) → any_day p n ≡ false
-unfolding any_day
-any_none p zero h = refl
-any_none p (suc n) h = simp (h n (omega arith)) (any_none p n (λ k b. h k (omega arith)))
 
 pub any_some : (p : ℕ → Bool) (n k : ℕ) → k < n → p k ≡ true → any_day p n ≡ true
 unfolding any_day

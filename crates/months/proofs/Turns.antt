@@ -1,11 +1,11 @@
--- One turn of each loop, at the code's `n + 1`; where they start and end.
+-- The sums over payments and over usage days: where the loops start, one turn at the code's `n + 1`, and where the usage days end.
 -- Assumes nothing.
 use Prim.Native.Nat.{ℕ, suc, ◌+◌, ◌-◌, ◌≤◌, ◌<◌}
 use native.Mathlib.Omega.{arith}
 use native.Mathlib.Numerals.{add-one}
 use native.Mathlib.Nat.{add-zero}
-use mathlib.Core.Path.{◌≡◌, refl, sym, ap, ◌∙◌}
-use mathlib.Core.Bool.{Bool, true, false, beq, cond, not, ◌&&◌, and-false}
+use mathlib.Core.Path.{◌≡◌, sym, ap, ◌∙◌}
+use mathlib.Core.Bool.{Bool, true, false, cond, ◌&&◌, and-false}
 use mathlib.Core.List.{List}
 use lib.ListN.{get_or}
 use borrow.Author.Tests.{lt-ltb, le-ltb, le-leb, lt-leb}
@@ -15,67 +15,65 @@ use Rattle.ledger.specs.declared.Counted.{Counted}
 use Rattle.ledger.specs.declared.Used.{Used}
 use Rattle.ledger.specs.Entries.{UsageDay}
 use Rattle.account.specs.Record.{blank_day, no_payment}
+use Rattle.moves.specs.declared.Usage.{Usage}
 use Rattle.moves.specs.declared.Day.{Day}
 use Rattle.moves.specs.declared.Payment.{Payment}
 use Rattle.months.specs.Summary.{counted_by, payments_by, state_of, usage_by}
-use Rattle.months.specs.Work.{span, is_kept_as, wh_as, cost_as, used_on, used_by}
+use Rattle.months.specs.Work.{span}
 use Rattle.months.proofs.Sums.{total-none, total-rest}
 
 -- ---- payments
 
-kept-as : (b : Bool) (p : Payment) → beq p.reversed b ≡ is_kept_as b p
-kept-as true p = elim p.reversed as (λ x. beq x true ≡ x) [ true ↦ refl | false ↦ refl ]
-kept-as false p = elim p.reversed as (λ x. beq x false ≡ not x) [ true ↦ refl | false ↦ refl ]
-
-module _ (q : ℕ → Bool) (b : Bool) (l : List Payment) where
-  pub paid-none : (c : Counted) → (c.count ≡ 0) × (c.sum ≡ 0) → c ≡ counted_by q (is_kept_as b) l 0
+module _ (q : ℕ → Bool) (l : List Payment) where
+  pub paid-none : (f : Payment → Bool) (c : Counted) → (c.count ≡ 0) × (c.sum ≡ 0) → c ≡ counted_by q f l 0
   unfolding payments_by total
-  paid-none c h k = record { count = h.0 k; sum = h.1 k }
+  paid-none f c h k = record { count = h.0 k; sum = h.1 k }
 
   -- the payment at n, as the code reads it
-  module _ (n : ℕ) (c : Counted) (e : c ≡ counted_by q (is_kept_as b) l n) (p : Payment) (h : p ≡ get_or l n no_payment) where
-    pub paid-in : q p.day ≡ true → beq p.reversed b ≡ true → record { count = c.count + 1; sum = c.sum + p.amount } ≡ counted_by q (is_kept_as b) l (n + 1)
+  module _ (f : Payment → Bool) (n : ℕ) (c : Counted) (e : c ≡ counted_by q f l n) (p : Payment) (h : p ≡ get_or l n no_payment) where
+    pub paid-in : (q p.day && f p) ≡ true → record { count = c.count + 1; sum = c.sum + p.amount } ≡ counted_by q f l (n + 1)
     unfolding payments_by total
-    paid-in y z = rw (add-one n, sym h) (simp (e, y, sym (kept-as b p) ∙ z))
+    paid-in y = rw (add-one n, sym h) (simp (e, y))
 
-    paid-out : (q p.day && is_kept_as b p) ≡ false → c ≡ counted_by q (is_kept_as b) l (n + 1)
+    pub paid-out : (q p.day && f p) ≡ false → c ≡ counted_by q f l (n + 1)
     unfolding payments_by total
-    paid-out f = rw (add-one n, sym h) (simp (e, f, add-zero))
-
-    pub paid-elsewhere : q p.day ≡ false → c ≡ counted_by q (is_kept_as b) l (n + 1)
-    paid-elsewhere f = paid-out (simp f)
-
-    pub paid-other : beq p.reversed b ≡ false → c ≡ counted_by q (is_kept_as b) l (n + 1)
-    paid-other f = paid-out (simp (sym (kept-as b p) ∙ f, and-false))
+    paid-out y = rw (add-one n, sym h) (simp (e, y, add-zero))
 
 -- ---- usage days
 
-module _ (r : Range ℕ) (l : List Day) where
-  before : (f : UsageDay → ℕ) → usage_by (span r) f l r.start ≡ 0
-  unfolding usage_by
-  before f = total-none _ r.start (λ k h. simp (lt-leb r.start k h))
+pub used-same : (u : Used) → u ≡ record { wh = u.wh + 0; cost = u.cost + 0 }
+used-same u k = record { wh = sym (add-zero u.wh) k; cost = sym (add-zero u.cost) k }
 
-  pub used-none : (b : Bool) (u : Used) → (u.wh ≡ 0) × (u.cost ≡ 0) → u ≡ used_by (span r) b l r.start
-  used-none b u h k = record { wh = (h.0 ∙ sym (before (wh_as b))) k; cost = (h.1 ∙ sym (before (cost_as b))) k }
+module _ (r : Range ℕ) (l : List Day) (f g : UsageDay → ℕ) where
+  -- the Wh and the cost of the days up to n
+  abbrev uses : ℕ → Used
+  uses n = record { wh = usage_by (span r) f l n; cost = usage_by (span r) g l n }
+
+  before : (h : UsageDay → ℕ) → usage_by (span r) h l r.start ≡ 0
+  unfolding usage_by
+  before h = total-none _ r.start (λ k b. simp (lt-leb r.start k b))
+
+  pub used-none : (u : Used) → (u.wh ≡ 0) × (u.cost ≡ 0) → u ≡ uses r.start
+  used-none u h k = record { wh = (h.0 ∙ sym (before f)) k; cost = (h.1 ∙ sym (before g)) k }
 
   module _ (i : ℕ) (h : r.start + i < r.end) where
-    more : (f : UsageDay → ℕ) → usage_by (span r) f l (r.start + i) + f (state_of (get_or l (r.start + i) blank_day).usage) ≡ usage_by (span r) f l (r.start + (i + 1))
+    more : (w : UsageDay → ℕ) → usage_by (span r) w l (r.start + i) + w (state_of (get_or l (r.start + i) blank_day).usage) ≡ usage_by (span r) w l (r.start + (i + 1))
     unfolding usage_by total
-    more f =
+    more w =
         let e : r.start + (i + 1) ≡ suc (r.start + i) = omega arith in
-        let g : r.start ≤ r.start + i = omega arith in
-        rw e (simp (le-leb r.start (r.start + i) g, lt-ltb (r.start + i) r.end h))
+        let b : r.start ≤ r.start + i = omega arith in
+        rw e (simp (le-leb r.start (r.start + i) b, lt-ltb (r.start + i) r.end h))
 
-    pub used-turn : (b : Bool) (u v : Used) → u ≡ used_by (span r) b l (r.start + i) → v ≡ used_on b (get_or l (r.start + i) blank_day).usage
-        → record { wh = u.wh + v.wh; cost = u.cost + v.cost } ≡ used_by (span r) b l (r.start + (i + 1))
-    used-turn b u v e f = rw (e, f) (λ k. record { wh = more (wh_as b) k; cost = more (cost_as b) k })
+    pub used-turn : (u v : Used) (d : Usage) → u ≡ uses (r.start + i) → d ≡ (get_or l (r.start + i) blank_day).usage
+        → v ≡ record { wh = u.wh + f (state_of d); cost = u.cost + g (state_of d) } → v ≡ uses (r.start + (i + 1))
+    used-turn u v d e is s = s ∙ rw (e, is) (λ k. record { wh = more f k; cost = more g k })
 
-  after : (f : UsageDay → ℕ) → r.end ≤ 400 → usage_by (span r) f l r.end ≡ usage_by (span r) f l 400
+  after : (w : UsageDay → ℕ) → r.end ≤ 400 → usage_by (span r) w l r.end ≡ usage_by (span r) w l 400
   unfolding usage_by
-  after f h =
+  after w h =
       let e : 400 ≡ r.end + (400 - r.end) = omega arith in
-      sym (ap (total (λ (u : ℕ). cond (span r u) (f (state_of (get_or l u blank_day).usage)) 0)) e
+      sym (ap (total (λ (u : ℕ). cond (span r u) (w (state_of (get_or l u blank_day).usage)) 0)) e
       ∙ total-rest _ r.end (400 - r.end) (λ k b. simp (le-ltb k r.end b, and-false)))
 
-  pub used_all : (b : Bool) → r.end ≤ 400 → used_by (span r) b l r.end ≡ used_by (span r) b l 400
-  used_all b h k = record { wh = after (wh_as b) h k; cost = after (cost_as b) h k }
+  pub used_all : r.end ≤ 400 → uses r.end ≡ uses 400
+  used_all h k = record { wh = after f h k; cost = after g h k }

@@ -1,5 +1,6 @@
 // A month's figures off the account record.
-// It uses the calendar, the ledger, the moves and the account. The promise says the figures twice: off the record, and in the ledger's terms.
+// It uses the calendar, the terms, the ledger, the moves and the account, and the refinement in its promise, which says the figures twice: off the
+// record, and in the ledger's terms.
 #![tactic(auto)]
 
 ghost use Rattle.std.specs.Prelude.{◌≡◌, ◌+◌, ◌*◌, ◌≤◌, ◌<◌, eqb};
@@ -7,63 +8,73 @@ ghost use Rattle.calendar.specs.Calendar.{day_count, month_count};
 ghost use Rattle.ledger.specs.Rules.{max_payments};
 ghost use Rattle.ledger.specs.Months.{average_of};
 ghost use Rattle.ledger.specs.Refusals.{average_or_0, is_average_missing, summary_record};
-ghost use Rattle.months.specs.Summary.{counted_by, charges_of, IsSummary};
-ghost use Rattle.months.specs.Work.{max_field, span, is_kept_as, used_on, used_by, max_averaged};
+ghost use Rattle.months.specs.Summary.{payment_kept, payment_reversed, counted_by, metered_by, estimated_by, charges_of, IsSummary};
+ghost use Rattle.months.specs.Work.{max_field, span, max_averaged};
 
 use account::{Account, Payments, UsageDays};
 use ledger::{CHARGE_KIND_COUNT, Counted, Figures, KindSums, Refusal, Used};
-use moves::{Charges, Day, Usage};
+use moves::{Charges, Usage};
 use std::ops::Range;
 
 // No list of charges takes a sum past this: a record that has one, of kind 1 or 2, is no account of this software's.
 const MAX_CHARGE_SUM: u64 = 1099511627776;
 
-// The payments of those days that are reversed, or those that are not.
-fn paid_in(payments: &Payments, count: u32, days: &Range<u32>, reversed: bool) -> Counted
-    requires { count ≤ max_payments }
-    ensures { result ≡ counted_by (span days.now) (is_kept_as reversed) payments.now count }
+// One payment more.
+fn add_payment(paid: &mut Counted, amount: u32)
+    requires { (paid.old.count < max_payments) × (paid.old.sum ≤ max_payments * max_field) }
+    ensures { paid.new ≡ record { count = paid.old.count + 1; sum = paid.old.sum + amount } }
 {
-    let mut paid = Counted::default();
+    paid.count += 1;
+    paid.sum += u64::from(amount);
+}
+
+// The payments of those days that are kept, and those that are reversed. The array comes with the count: a slice `&payments[..count]` was tried,
+// and the array's length behind `&Account` is not known to the caller's proof.
+fn paid_in(payments: &Payments, count: u32, days: &Range<u32>) -> (Counted, Counted)
+    requires { count ≤ max_payments }
+    ensures kept { result.0 ≡ counted_by (span days.now) payment_kept payments.now count }
+    ensures reversed { result.1 ≡ counted_by (span days.now) payment_reversed payments.now count }
+{
+    let mut kept = Counted::default();
+    let mut reversed = Counted::default();
     for p in &payments[..count as usize] {
-        if p.reversed == reversed && days.contains(&p.day) {
-            paid.count += 1;
-            paid.sum += p.amount as u64;
+        if days.contains(&p.day) {
+            if p.reversed {
+                add_payment(&mut reversed, p.amount);
+            } else {
+                add_payment(&mut kept, p.amount);
+            }
         }
     }
-    paid
+    (kept, reversed)
 }
 
-// What a day adds to the metered usage, or to the estimated.
-fn used_on(d: Day, metered: bool) -> Used
-    ensures value { result ≡ used_on metered d.usage }
-    ensures bound { (result.wh ≤ max_field) × (result.cost ≤ max_field) }
+// One usage day more.
+fn add_usage(used: &mut Used, wh: u32, cost: u32)
+    requires { (used.old.wh ≤ day_count * max_field) × (used.old.cost ≤ day_count * max_field) }
+    ensures { used.new ≡ record { wh = used.old.wh + wh; cost = used.old.cost + cost } }
 {
-    match d.usage {
-        Usage::Estimated { wh, cost } if !metered => Used {
-            wh: wh as u64,
-            cost: cost as u64,
-        },
-        Usage::Metered { wh, cost } if metered => Used {
-            wh: wh as u64,
-            cost: cost as u64,
-        },
-        _ => Used::default(),
-    }
+    used.wh += u64::from(wh);
+    used.cost += u64::from(cost);
 }
 
-// The metered usage of those days, or the estimated.
-fn used_in(usage: &UsageDays, days: &Range<u32>, metered: bool) -> Used
+// The metered usage of those days, and the estimated.
+fn used_in(usage: &UsageDays, days: &Range<u32>) -> (Used, Used)
     requires { (days.now.start ≤ days.now.end) × (days.now.end ≤ day_count) }
-    ensures value { result ≡ used_by (span days.now) metered usage.now day_count }
-    ensures bound { (result.wh ≤ day_count * max_field) × (result.cost ≤ day_count * max_field) }
+    ensures metered { result.0 ≡ metered_by (span days.now) usage.now day_count }
+    ensures estimated { result.1 ≡ estimated_by (span days.now) usage.now day_count }
+    ensures bound { (result.0.wh + result.1.wh ≤ day_count * max_field) × (result.0.cost + result.1.cost ≤ day_count * max_field) }
 {
-    let mut used = Used::default();
+    let mut metered = Used::default();
+    let mut estimated = Used::default();
     for d in &usage[days.start as usize..days.end as usize] {
-        let day = used_on(*d, metered);
-        used.wh += day.wh;
-        used.cost += day.cost;
+        match d.usage {
+            Usage::Blank => {}
+            Usage::Estimated { wh, cost } => add_usage(&mut estimated, wh, cost),
+            Usage::Metered { wh, cost } => add_usage(&mut metered, wh, cost),
+        }
     }
-    used
+    (metered, estimated)
 }
 
 fn charges_in(charges: &Charges, m: u32) -> KindSums
@@ -103,13 +114,12 @@ pub fn summary(a: &Account, m: u32) -> Result<Figures, Refusal>
     if delivery > MAX_CHARGE_SUM || tax > MAX_CHARGE_SUM {
         return Err(Refusal::Terms);
     }
-    let count = a.totals.count;
-    let metered = used_in(&a.days, &days, true);
-    let estimated = used_in(&a.days, &days, false);
+    let (kept, reversed) = paid_in(&a.payments, a.totals.count, &days);
+    let (metered, estimated) = used_in(&a.days, &days);
     let cost = metered.cost + estimated.cost + delivery + tax;
     Ok(Figures {
-        kept: paid_in(&a.payments, count, &days, false),
-        reversed: paid_in(&a.payments, count, &days, true),
+        kept,
+        reversed,
         metered,
         estimated,
         charges,

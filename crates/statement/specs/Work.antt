@@ -16,6 +16,6 @@ pub record OpensText (s : List ℕ) (a : Account) (rest : List ℕ) : Type 0 whe
   pub lines : (f : Terms → List ℕ → List ℕ) → by_text f s ≡ f a.terms rest
 
 -- what `open` answers: that account, or why there is only the terms' line
-abbrev pub IsOpened : List ℕ → Result (Account × Bor (List ℕ)) Refusal → Type 0
-IsOpened s (Ok p) = OpensText s p.0 p.1.now
-IsOpened s (Err r) = (f : Terms → List ℕ → List ℕ) → by_text f s ≡ terms_line (refusal_code r)
+abbrev pub IsTextOpened : List ℕ → Result (Account × Bor (List ℕ)) Refusal → Type 0
+IsTextOpened s (Ok p) = OpensText s p.0 p.1.now
+IsTextOpened s (Err r) = (f : Terms → List ℕ → List ℕ) → by_text f s ≡ terms_line (refusal_code r)

@@ -4,13 +4,13 @@
 // specs/Work.antt.
 #![tactic(auto)]
 
-ghost use Rattle.std.specs.Prelude.{◌≡◌, cond, ℕ, ◌+◌, ◌≤◌, length};
+ghost use Rattle.std.specs.Prelude.{◌≡◌, ℕ};
 ghost use Rattle.printing.specs.Printer.{HasRoom, Writes, WritesWithin};
 ghost use Rattle.refinement.specs.Lists.{account_after};
 ghost use Rattle.months.specs.Summary.{summary_of};
 ghost use Rattle.calendar.specs.Calendar.{month_count};
 ghost use Rattle.statement.specs.Statement.{payments_part, usage_part, charges_part, summary_line, payments_room, usage_room, charges_room, summary_room, statement_room, month_lines, events_of, EventsSuffice, WholeStatement};
-ghost use Rattle.statement.specs.Work.{IsOpened};
+ghost use Rattle.statement.specs.Work.{IsTextOpened};
 
 use account::Account;
 use calendar::MONTH_COUNT;
@@ -91,7 +91,7 @@ pub fn count_suffices()
 
 // The account that a text's terms open, and the text's rest.
 fn open(text: &[u8]) -> Result<(Account, &[u8]), Refusal>
-    ensures { IsOpened text.now result }
+    ensures { IsTextOpened text.now result }
 {
     let (terms, rest) = transcript::read_terms(text).ok_or(Refusal::Form)?;
     let account = account::open(terms)?;

@@ -88,8 +88,8 @@ module _ (text : List ℕ) where
     there : r ≡ drop (length text - length r) text
     there = terms-rest text t r (short text t r e).1
 
-    pub within : length r ≤ length text
-    within = omega (arith, ap length there, length-drop (length text - length r) text)
+    pub rest-length : length r ≤ length text
+    rest-length = omega (arith, ap length there, length-drop (length text - length r) text)
 
     opened : valid_terms t ≡ true → lines_from text (fresh t) (length text - length r) 0 ≡ by_terms all_lines (got t r)
     opened v = rw (sym there) (simp v (lines_are t v (suc (length r)) (fresh t) opening 1 r (refinement-holds t v).opens))

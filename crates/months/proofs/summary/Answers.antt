@@ -35,18 +35,15 @@ returns-then-delivery-gt-MAX_CHARGE_SUM c =
 pub paid_in-requires : goal.paid_in-requires
 paid_in-requires c = (in_reach _ _ (sym c.is_account.ensures ∙ c.if-not-is_account.false)).count
 
-pub paid_in-requires-2 : goal.paid_in-requires-2
-paid_in-requires-2 c = (in_reach _ _ (sym c.is_account.ensures ∙ c.if-not-is_account.false)).count
-
 pub returns : goal.returns
 returns c =
     let a = c.args.a.now in
     let i = sym c.is_account.ensures ∙ c.if-not-is_account.false in
-    let m = c.used_in-metered.ensures.value in
-    let u = c.used_in-estimated.ensures.value in
+    let m = c.used_in.ensures.metered in
+    let u = c.used_in.ensures.estimated in
     let s = c.charges_in-charges.ensures in
-    let kept = c.paid_in.ensures in
-    let reversed = c.paid_in-2.ensures in
+    let kept = c.paid_in.ensures.kept in
+    let reversed = c.paid_in.ensures.reversed in
     let v = rw (m, u, s) at c.average.ensures.value in
     let w = rw (m, u) at c.average.ensures.missing in
     let delivery = rw s at c.if-delivery-gt-MAX_CHARGE_SUM.false in

@@ -5,11 +5,11 @@ use Rattle.terms.specs.declared.Terms.{Terms}
 use Rattle.account.specs.Record.{fresh}
 use Rattle.transcript.specs.Pieces.{progress_of}
 use Rattle.transcript.proofs.Terms.{refusal-is}
-use Rattle.transcript.proofs.Ledgers.{within, opened-begun, malformed-begun}
+use Rattle.transcript.proofs.Ledgers.{rest-length, opened-begun, malformed-begun}
 use Rattle.transcript.proofs.Progress.begin.Goals as goal
 
 pub overflow_sub-text : goal.overflow_sub-text
-overflow_sub-text c = within _ _ _ c.in-Some.ensures
+overflow_sub-text c = rest-length _ _ _ c.in-Some.ensures
 
 pub returns-in-Some : goal.returns-in-Some
 returns-in-Some c =
