@@ -10,6 +10,7 @@ use account::{Account, Posted, step};
 use ledger::{Event, Refusal, code};
 
 // One event. The thin form over the step by value, which the project names, copies, calls and stores; `Account::post` is the same in place.
+#[tactic(auto, using(crate::proofs::Ledgers::posts))]
 pub fn post(a: &mut Account, e: Event) -> Result<u64, Refusal>
     ensures { Posts a.old e a.new (answer_record result) }
 {
