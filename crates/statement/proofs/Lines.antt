@@ -1,5 +1,4 @@
--- The months' lines one after the other, and the terms' line by its bytes.
--- Assumes nothing.
+-- A line's fields one after the other, a flag's number, and the months' lines one after the other. Assumes nothing.
 use mathlib.Core.Path.{◌≡◌, refl, sym}
 use mathlib.Core.Bool.{Bool, true, false, cond}
 use mathlib.Core.List.{List, ◌++◌, append_assoc}

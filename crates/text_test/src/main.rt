@@ -1,4 +1,5 @@
 // The transcripts of texts that break their form, at each kind of line, and of texts beside them that do not.
+// It uses the event text's limit, the printing and the transcript.
 // The file stdin has the cases, each its name, which begins with `#`, and its text, a `%` after both. What follows a `*` stands in the text
 // 4,675 times.
 // A name has `P` where the usual terms and a payment of 6000 on day 0 stand first in the text, and `T` where the terms do.
@@ -10,12 +11,9 @@ use std::io;
 use std::io::{BufWriter, Read, Write};
 use transcript::TRANSCRIPT_ROOM;
 
-// A transcript, the first bytes of a buffer; of a long one, its length and its last bytes. The buffer's array is cut here, by its length as a slice:
-// where it is made, a proof would count its bytes.
-fn say(to: &mut impl Write, out: &[u8], length: usize) -> io::Result<()> {
-    let Some(transcript) = out.get(..length) else {
-        return Ok(());
-    };
+// A transcript; of a long one, its length and its last bytes.
+fn say(to: &mut impl Write, transcript: &[u8]) -> io::Result<()> {
+    let length = transcript.len();
     if length < 4096 {
         return to.write_all(transcript);
     }
@@ -26,7 +24,7 @@ fn say(to: &mut impl Write, out: &[u8], length: usize) -> io::Result<()> {
 fn show(to: &mut impl Write, text: &[u8]) -> io::Result<()> {
     let mut out = [0u8; TRANSCRIPT_ROOM];
     let length = transcript::transcript(text, &mut out);
-    say(to, &out, length)
+    say(to, &out[..length])
 }
 
 fn short_buffer(to: &mut impl Write) -> io::Result<()> {
