@@ -1,6 +1,6 @@
 -- From the terms: the lines are those of the ledger. Assumes nothing.
 use Prim.Native.Nat.{ℕ}
-use mathlib.Core.Path.{◌≡◌, sym, ap, subst, ◌∙◌}
+use mathlib.Core.Path.{◌≡◌, sym, ap, ◌∙◌}
 use mathlib.Core.List.{List}
 use Rattle.std.proofs.Common.{Ok}
 use Rattle.terms.specs.declared.Terms.{Terms}
@@ -15,7 +15,6 @@ use Rattle.refinement.proofs.Lists.{opened-valid}
 use Rattle.months.specs.Summary.{summary_of}
 use Rattle.months.proofs.Agrees.{summary-made}
 use Rattle.scanner.specs.Scanner.{got}
-use Rattle.printing.specs.Printing.{Whole}
 use Rattle.transcript.specs.Transcript.{terms_in, by_text}
 use Rattle.transcript.proofs.Terms.{by-terms, opened}
 use Rattle.statement.specs.Statement.{month_lines, events_of, all_months}
@@ -39,7 +38,3 @@ months-printed s a rest o =
     let made : Made a.terms es (account_after a es) = record { valid = o.valid; account = ap (λ (b : Account). account_after b es) o.fresh } in
     o.lines all_months
     ∙ sym (same_lines (λ (m : ℕ). summary_of (account_after a es) m) (ledger_summary a.terms (ledger_of a.terms es).list) (λ m. summary-made (account_after a es) m a.terms es made) 15)
-
--- the buffer that is left is the printer's
-pub in-buffer : {room : ℕ} {bytes before : List ℕ} {n : ℕ} (out : List ℕ) {last : List ℕ} → last ≡ out → Whole room bytes before out n → Whole room bytes before last n
-in-buffer {room} {bytes} {before} {n} out e w = subst (λ (l : List ℕ). Whole room bytes before l n) (sym e) w

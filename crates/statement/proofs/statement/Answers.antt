@@ -1,11 +1,11 @@
 -- `statement::statement` meets its contract. Assumes nothing.
-use Rattle.std.proofs.Common.{ℕ, rules, sym, ap, ◌∙◌, arith}
+use Rattle.std.proofs.Common.{ℕ, List, rules, subst, sym, ap, ◌∙◌, arith}
 use Rattle.account.specs.declared.Account.{Account}
 use Rattle.months.specs.Summary.{summary_of}
 use Rattle.printing.specs.Printer.{Writes}
 use Rattle.printing.proofs.Placed.{none-put, all-put}
-use Rattle.statement.specs.Statement.{month_lines, summaries, all_months}
-use Rattle.statement.proofs.Whole.{months-printed, in-buffer}
+use Rattle.statement.specs.Statement.{month_lines, summaries, all_months, WholeStatement}
+use Rattle.statement.proofs.Whole.{months-printed}
 use Rattle.statement.proofs.statement.Goals.{in-Ok, in-Err}
 use Rattle.statement.proofs.statement.Goals as goal
 
@@ -15,12 +15,14 @@ returns-then-out-lt-STATEMENT_ROOM c = none-put _ _ _ c.if-out-lt-STATEMENT_ROOM
 pub returns : goal.returns
 unfolding summaries
 returns c =
+    -- the buffer that is left is the printer's
+    let left : List ℕ → Type 0 = λ l. WholeStatement c.args.text.now c.args.out.now l c.match-open.page.at in
     elim c.match-open.branch [
       | in-Ok w ↦
           let v : Writes _ _ c.match-open.page = rw (sym w.page-is) at w.put_months.ensures in
-          in-buffer c.match-open.page.out.now (search (rules, sym v.same)) (all-put _ _ c.if-out-lt-STATEMENT_ROOM.false v.wrote
+          subst left (search (rules, v.same)) (all-put _ _ c.if-out-lt-STATEMENT_ROOM.false v.wrote
           (months-printed _ _ _ w.in-Ok.ensures ∙ ap (λ (a : Account). month_lines (λ (m : ℕ). summary_of a m) 15) (sym w.post_events.ensures)))
       | in-Err w ↦
           let v : Writes _ _ c.match-open.page = rw (sym w.page-is) at w.put_refusal.ensures.printed (omega (arith, c.if-out-lt-STATEMENT_ROOM.false)) in
-          in-buffer c.match-open.page.out.now (search (rules, sym v.same)) (all-put _ _ c.if-out-lt-STATEMENT_ROOM.false v.wrote (w.in-Err.ensures all_months))
+          subst left (search (rules, v.same)) (all-put _ _ c.if-out-lt-STATEMENT_ROOM.false v.wrote (w.in-Err.ensures all_months))
     ]
