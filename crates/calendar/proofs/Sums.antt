@@ -1,6 +1,6 @@
 -- Tests of all and of any numbers below a limit, and the sums `total f n` of `specs/Calendar.antt`. Assumes nothing.
 use mathlib.Core.Path.{◌≡◌, refl, ap, subst⁻¹}
-use mathlib.Core.Bool.{Bool, true, false, ◌&&◌, false≢true}
+use mathlib.Core.Bool.{Bool, true, false, ◌&&◌}
 use mathlib.Core.Logic.{inl, inr}
 use Prim.Native.Nat.{ℕ, zero, suc, ◌≤◌, ◌<◌}
 use native.Mathlib.Nat.{eq-or-lt_of_le, le_of_eq, le_of_suc-le-suc, not-suc-le-zero, le_antisymm, le_refl}
@@ -15,15 +15,6 @@ use Rattle.calendar.specs.Days.{any_day}
 pub decide : {X : Type 0} (b : Bool) → (b ≡ true → X) → (b ≡ false → X) → X
 decide true t f = t refl
 decide false t f = f refl
-
--- the two parts of a test that passed
-pub and_left : (a b : Bool) → a && b ≡ true → a ≡ true
-and_left true b e = refl
-and_left false b e = e
-
-pub and_right : (a b : Bool) → a && b ≡ true → b ≡ true
-and_right true b e = e
-and_right false b e = absurd (false≢true e)
 
 -- a test that begins with an order
 pub leb-and : (a b : ℕ) (t : Bool) → leb a b && t ≡ true → (a ≤ b) × (t ≡ true)

@@ -2,9 +2,8 @@
 use Rattle.std.proofs.Common.{◌≡◌, ℕ, ◌≤◌, Bool, true, false, cond, not, ◌&&◌, leb, eqb, None, List, [], ◌∷◌, length, get_or, refl, rules}
 use borrow.Author.Tests.{leb-true, eq-eqb, ne_eqb}
 use mathlib.Core.Logic.{◌≢◌}
-use Rattle.std.proofs.lemmas.Bool.{false_from_ne_true, false≢true}
+use Rattle.std.proofs.lemmas.Bool.{and_parts, false_from_ne_true, false≢true}
 use Rattle.std.proofs.lemmas.Slice.Eq.{compares_Decides}
-use Rattle.calendar.proofs.Sums.{and_left, and_right}
 use Rattle.scanner.specs.Scanner.{same}
 use Rattle.text.specs.Text.{SortRow, sorts, sort_in}
 use Rattle.text.specs.Words.{sort_of}
@@ -36,10 +35,8 @@ module _ (w : List ℕ) where
   unfolding sort_in
   long-in [] h z = absurd (z refl)
   long-in (r ∷ rows) h z =
-      named (same r.word w) r.sort (sort_in rows w)
-      (λ e. rw (same_is r.word w e) at (leb-true (least r.sort) (length r.word) (and_left _ (sound rows) h)))
-      (long-in rows (and_right (leb (least r.sort) (length r.word)) _ h))
-      z
+      let s = and_parts (leb (least r.sort) (length r.word)) (sound rows) h in
+      named (same r.word w) r.sort (sort_in rows w) (λ e. rw (same_is r.word w e) at (leb-true (least r.sort) (length r.word) s.0)) (long-in rows s.1) z
 
   pub long-enough : sort_in sorts w ≢ 0 → least (sort_in sorts w) ≤ length w
   long-enough = long-in sorts refl
@@ -50,7 +47,7 @@ module _ (w : List ℕ) where
   none-in : (rows : List SortRow) → apart (length w) (get_or w 0 0) rows ≡ true → sort_in rows w ≡ 0
   unfolding sort_in
   none-in [] h = refl
-  none-in (r ∷ rows) h = simp (other r.word (and_left _ (apart (length w) (get_or w 0 0) rows) h)) (none-in rows (and_right (not (eqb (length w) (length r.word) && eqb (get_or w 0 0) (get_or r.word 0 0))) _ h))
+  none-in (r ∷ rows) h = let a = and_parts _ (apart (length w) (get_or w 0 0) rows) h in simp (other r.word a.0) (none-in rows a.1)
 
   no-word : (n b : ℕ) → length w ≡ n → get_or w 0 0 ≡ b → apart n b sorts ≡ true → None ≡ sort_of w
   unfolding sort_of
