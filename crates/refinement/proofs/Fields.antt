@@ -14,7 +14,8 @@ use Rattle.ledger.specs.declared.Event.{Event}
 use Rattle.ledger.specs.Event.{is_pay, is_reverse, is_charge, is_estimate, is_read, is_warn, is_mark}
 use Rattle.ledger.specs.Entries.{Entries, any, count, sum, find, paid_amount, payment_count, payment, has_number, reversed, estimated, metered, usage_day, read_on, estimate_on, wh_on, price_on, covered}
 use Rattle.ledger.specs.Months.{charges_in, month_of}
-use Rattle.ledger.proofs.Cases.{decide, both}
+use Rattle.std.proofs.lemmas.Bool.{and_parts}
+use Rattle.ledger.proofs.Cases.{decide}
 use Rattle.refinement.specs.Agree.{warned_on}
 
 module _ (e : Event) (p : ℕ) (l : Entries) where
@@ -44,7 +45,7 @@ module _ (e : Event) (p : ℕ) (l : Entries) where
   pub amount-limit : (n k : ℕ) → (is_pay e ≡ true → e.amount ≤ k) → paid_amount l n ≤ k → paid_amount more n ≤ k
   unfolding payment find
   amount-limit n k h g = decide (has_number n (record { event = e; part = p }) l)
-      (λ t. simp t (h (both (is_pay e) (eqb (payment_count l) n) t).0))
+      (λ t. simp t (h (and_parts (is_pay e) (eqb (payment_count l) n) t).0))
       (λ f. simp f g)
 
   pub reversed-same : (n : ℕ) → (is_reverse e && eqb e.number n) ≡ false → reversed more n ≡ reversed l n

@@ -17,7 +17,8 @@ use Rattle.ledger.specs.declared.Event.{Event}
 use Rattle.ledger.specs.Event.{is_pay, is_reverse, is_charge, is_estimate, is_read, is_warn, is_mark, in_limits}
 use Rattle.ledger.specs.Entries.{estimate_cost_of, Entries, any, payment_count, paid_on, paid_amount, paid_part, reversed, UsageDay, usage_day, read_on, estimate_on, covered}
 use Rattle.ledger.specs.Months.{charges_in, month_of}
-use Rattle.ledger.proofs.Cases.{decide, both}
+use Rattle.std.proofs.lemmas.Bool.{and_parts}
+use Rattle.ledger.proofs.Cases.{decide}
 use Rattle.account.specs.Record.{blank_day, no_payment}
 use Rattle.account.specs.declared.Account.{Account}
 use Rattle.moves.specs.declared.Payment.{Payment}
@@ -34,24 +35,24 @@ module _ (t : Terms) (e : Event) (p : ℕ) (l : Entries) (h : in_limits e ≡ tr
 
   pub charged-keep : ((m k : ℕ) → charges_in t l m k ≤ length l * 10000000) → (m k : ℕ) → charges_in t (F.more e p l) m k ≤ length (F.more e p l) * 10000000
   charged-keep c m k = rw (F.charges-more e p l t m k) (decide (is_charge e && (eqb e.kind k && eqb (month_of t e.day) m))
-      (λ y. simp y (omega (arith, c m k, (charge-limits e (eqb-true e.sort 4 (both (is_charge e) _ y).0) h).amount.most)))
+      (λ y. simp y (omega (arith, c m k, (charge-limits e (eqb-true e.sort 4 (and_parts (is_charge e) _ y).0) h).amount.most)))
       (λ f. simp f (omega (arith, c m k))))
 
   -- the cost held of a day that has this event's estimate
   estimate-held : t.price ≤ 99999 → (u : ℕ) → estimate_on u e ≡ true → estimate_cost_of (usage_day t (F.more e p l) u) ≤ 10000000
   estimate-held q u y =
-      let i : is_estimate e ≡ true = (both (is_estimate e) (eqb e.usage u) y).0 in
+      let i : is_estimate e ≡ true = (and_parts (is_estimate e) (eqb e.usage u) y).0 in
       let s : e.sort ≡ 5 = eqb-true e.sort 5 i in
       let w : e.wh ≤ 9999999 = usage-limits e (inl s) h in
       let r : is_read e ≡ false = rw s refl in
-      subst (λ (v : ℕ). estimate_cost_of (usage_day t (F.more e p l) v) ≤ 10000000) (eqb-true e.usage u (both (is_estimate e) (eqb e.usage u) y).1)
+      subst (λ (v : ℕ). estimate_cost_of (usage_day t (F.more e p l) v) ≤ 10000000) (eqb-true e.usage u (and_parts (is_estimate e) (eqb e.usage u) y).1)
       (decide (any (read_on e.usage) l)
       (λ m. rw (F.usage-read-before e p l t r m) (omega arith))
       (λ n. rw (F.usage-estimated e p l t i r n) (omega (arith, cost-limit e.wh t.price w q))))
 
   pub held-keep : t.price ≤ 99999 → ((u : ℕ) → estimate_cost_of (usage_day t l u) ≤ 10000000) → (u : ℕ) → estimate_cost_of (usage_day t (F.more e p l) u) ≤ 10000000
   held-keep q k u = decide (read_on u e)
-      (λ y. let b = both (is_read e) (eqb e.usage u) y in
+      (λ y. let b = and_parts (is_read e) (eqb e.usage u) y in
       subst (λ (v : ℕ). estimate_cost_of (usage_day t (F.more e p l) v) ≤ 10000000) (eqb-true e.usage u b.1) (rw (F.usage-metered e p l t b.0) (omega arith)))
       (λ f. decide (estimate_on u e)
       (λ y. estimate-held q u y)
@@ -100,7 +101,7 @@ module _ (t : Terms) (a : Account) (e : Event) (p : ℕ) (l : Entries) (k : Cell
       let now : ℕ = get_or a.charges at 0 + e.amount in
       rw (F.charges-more e p l t m (suc i))
       (decide (eqb e.kind (suc i) && eqb (month_of t e.day) m)
-      (λ q. let b = both (eqb e.kind (suc i)) (eqb (month_of t e.day) m) q in
+      (λ q. let b = and_parts (eqb e.kind (suc i)) (eqb (month_of t e.day) m) q in
       let here : 5 * m + i ≡ at = omega (arith, on, eqb-true e.kind (suc i) b.0, eqb-true (month_of t e.day) m b.1) in
       simp (y, q) (ap (λ (v : ℕ). get_or (set a.charges at now) v 0) here
       ∙ get_or-set_same a.charges at now 0 (omega arith)

@@ -22,7 +22,8 @@ use Rattle.ledger.specs.Entries.{Entries, any, warned, weather, weekday, covered
 use Rattle.ledger.specs.Rules.{Ledger, may_defer}
 use Rattle.ledger.specs.Ledger.{effect_of, service_effect, plan_effect, deferred}
 use Rattle.ledger.specs.Invariant.{Invariant}
-use Rattle.ledger.proofs.Cases.{decide, both}
+use Rattle.std.proofs.lemmas.Bool.{and_parts}
+use Rattle.ledger.proofs.Cases.{decide}
 use Rattle.ledger.proofs.Money.{diff, diff-eq, diff-zero, diff-lt, diff-ge, diff-low, diff-gap}
 use Rattle.moves.specs.Moves.{Moved, cells_before, tallied, with_service, plan_condition_met, deferral_of, barred_on, warn_of, mark_of, deferring_of, plan_of, served_of, disconnect_of, connect_of}
 use Rattle.moves.proofs.Arms.{branch}
@@ -44,7 +45,7 @@ warned-by : (x w : ℕ) (l : Entries) → warned_on l w ≡ true → w < x → x
 unfolding warned_on warned any
 warned-by x w [] y lo hi = y
 warned-by x w (n ∷ l) y lo hi = decide (is_warn n.event && eqb n.event.day w)
-    (λ q. let b = both (is_warn n.event) (eqb n.event.day w) q in
+    (λ q. let b = and_parts (is_warn n.event) (eqb n.event.day w) q in
     let d : n.event.day ≡ w = eqb-true n.event.day w b.1 in
     simp (b.0, le-leb (n.event.day + 1) x (omega arith), le-leb x (n.event.day + 7) (omega arith)))
     (λ f. simp (warned-by x w l (simp f at y) lo hi, or-true))
@@ -60,8 +61,8 @@ warned-day : (x : ℕ) (l : Entries) → warned l x ≡ true → Day x l
 unfolding warned_on warned any
 warned-day x [] y = absurd (true≢false (sym y))
 warned-day x (n ∷ l) y = decide (is_warn n.event && (leb (n.event.day + 1) x && leb x (n.event.day + 7)))
-    (λ q. let b = both (is_warn n.event) _ q in
-    let c = both (leb (n.event.day + 1) x) (leb x (n.event.day + 7)) b.1 in
+    (λ q. let b = and_parts (is_warn n.event) _ q in
+    let c = and_parts (leb (n.event.day + 1) x) (leb x (n.event.day + 7)) b.1 in
     record {
       day = n.event.day;
       on = simp (b.0, eq-eqb n.event.day n.event.day refl);
@@ -145,7 +146,7 @@ module _ (a : Account) (l : Ledger) (e : Event) (g : Agree a.terms a l) (s : Inv
   -- a plan is for a B below 0
   short : plan_condition_met t a.totals a.marks e ≡ true → a.totals.credit ≤ a.totals.debit
   short y = decide (eqb e.kind 1)
-      (λ k. omega (arith, leb-true (a.totals.credit + 5000) a.totals.debit (both (leb (a.totals.credit + 5000) a.totals.debit) _ (simp k at y)).0))
+      (λ k. omega (arith, leb-true (a.totals.credit + 5000) a.totals.debit (and_parts (leb (a.totals.credit + 5000) a.totals.debit) _ (simp k at y)).0))
       (λ f. omega (arith, ltb-true a.totals.credit a.totals.debit (simp f at y)))
 
   deferral-is : a.totals.credit ≤ a.totals.debit → deferral_of t a.totals ≡ deferred t l

@@ -16,7 +16,7 @@ use Rattle.ledger.specs.Entries.{usage_cost, any, read_on, estimate_on, price_on
 use Rattle.ledger.specs.Rules.{Ledger}
 use Rattle.ledger.specs.Ledger.{effect_of, estimate_effect, read_effect, refusal}
 use Rattle.ledger.specs.Invariant.{Invariant}
-use Rattle.ledger.proofs.Cases.{neither}
+use Rattle.std.proofs.lemmas.Bool.{or_parts}
 use Rattle.ledger.proofs.Money.{diff, diff-sub}
 use Rattle.ledger.proofs.Identity.{blank-is}
 use Rattle.moves.specs.Moves.{Moved, cells_before, refusing, by_usage, wh_cost, estimate_of, estimated_of, read_of, metered_of}
@@ -70,7 +70,7 @@ module _ (a : Account) (l : Ledger) (e : Event) (g : Agree a.terms a l) (s : Inv
         let free : (any (read_on e.usage) l.list || any (estimate_on e.usage) l.list) ≡ false = not-true _ (sym (blank-is t l.list e.usage) ∙ y) in
         let most = cost-on t a.totals e (facts a l g e h) (inl k) in
         accepted a l e g s h z 5 k _ refl (estimate_effect t l e) (
-          rw usage-is (days-set t a e 0 l.list g.kept (estimated e.wh (wh_cost t e)) g.sizes.days used (usage-estimated e 0 l.list t (rw k refl) (rw k refl) (neither _ _ free).0)),
+          rw usage-is (days-set t a e 0 l.list g.kept (estimated e.wh (wh_cost t e)) g.sizes.days used (usage-estimated e 0 l.list t (rw k refl) (rw k refl) (or_parts _ _ free).0)),
           omega (arith, g.sums.standing, simp (sort-is k 6 refl, sort-is k 5 refl) at (standing-is a l g e h s z 0), cost-is),
           omega (arith, g.bounds.standing, most),
         )
