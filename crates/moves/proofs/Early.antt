@@ -1,7 +1,7 @@
 -- What holds once the checks of every event have passed. Assumes nothing.
 use mathlib.Core.Path.{◌≡◌}
 use mathlib.Core.Bool.{true}
-use mathlib.Core.Logic.{◌⊎◌, inl, inr}
+use mathlib.Core.Logic.{◌⊎◌}
 use Prim.Native.Nat.{ℕ, ◌≤◌, ◌<◌}
 use native.Mathlib.Omega.{arith}
 use borrow.Author.Tests.{le-leb}
@@ -145,8 +145,6 @@ charge_bounds t s e h k =
 pub mark_order : (t : Terms) (s : Totals) (e : Event) → early_code t s e ≡ 0 → e.sort ≡ 8 → e.from ≤ e.to
 mark_order t s e h k = (mark-limits e k (early t s e h).passed.limits).from
 
-pub estimate_cost : (t : Terms) (s : Totals) (e : Event) → early_code t s e ≡ 0 → e.sort ≡ 5 → cost_of e.wh t.price ≤ 9999899
-estimate_cost t s e h k = cost-on t s e (early t s e h) (inl k)
-
-pub read_cost : (t : Terms) (s : Totals) (e : Event) → early_code t s e ≡ 0 → e.sort ≡ 6 → cost_of e.wh t.price ≤ 9999899
-read_cost t s e h k = cost-on t s e (early t s e h) (inr k)
+-- of an estimate and of a read
+pub usage_cost : (t : Terms) (s : Totals) (e : Event) → early_code t s e ≡ 0 → (e.sort ≡ 5) ⊎ (e.sort ≡ 6) → cost_of e.wh t.price ≤ 9999899
+usage_cost t s e h k = cost-on t s e (early t s e h) k

@@ -1,6 +1,6 @@
 // What one event does to the totals and to the cells of the record that it may change, by its sort, and what it is answered.
 // It uses the calendar, the tariff, the marks, the terms, the limits and the ledger's event. Its promises cite specs/Moves.antt and
-// specs/Sorts.antt. Where a cost or a part is known to fit 32 bits, `as` narrows it; a place is a `usize` by `as`, which has no `From`.
+// specs/Sorts.antt. Where a cost or a part is known to fit 32 bits, `as` narrows it; a place is cast to an index, since u32 has no `From` into usize.
 #![tactic(auto)]
 
 ghost use Rattle.std.specs.Prelude.{◌≡◌, ◌<◌};
@@ -87,7 +87,7 @@ impl Totals {
 }
 
 // What an accepted event is answered, the totals after it, and the one cell of each array that it may change. A cell that it leaves stands here as
-// it was, and is written back: one write each, without a branch.
+// it was, and is written back, as the step's definition (account's specs/Step.antt) has it: an `Option` for each would make both longer.
 #[derive(Clone, Copy, Debug, PartialEq, Eq)]
 pub struct Move {
     pub value: u64,
@@ -106,6 +106,7 @@ pub struct Move {
 }
 
 // A place for each month and charge kind: month m's charges of kind k are summed at 5 m + k - 1.
+// One array and its place, as the definitions have it: an array for each month would be indexed twice in each of them.
 pub const CHARGE_PLACES: usize = (calendar::MONTH_COUNT * ledger::CHARGE_KIND_COUNT) as usize;
 
 pub type Charges = [u64; CHARGE_PLACES];

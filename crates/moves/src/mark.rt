@@ -1,7 +1,8 @@
 // A mark that an event sets.
 ghost use Rattle.std.specs.Prelude.{◌≤◌};
 
-// A mark to be set from day `from` to day `to`; the kind is the event's number.
+// A mark to be set from day `from` to day `to`. The kind is the event's number: an enum would repeat the judgement that `limits` has made of it,
+// and `marks` gives a number that is no kind no bit.
 #[derive(Clone, Copy, Debug, PartialEq, Eq)]
 pub struct Mark {
     pub kind: u32,

@@ -93,6 +93,7 @@ impl Checked<'_> {
         }
     }
 
+    // Disconnect and connect stay two: each states its own rule, and what they share is `served`.
     #[tactic(auto, using(crate::proofs::Early::early), unfolding(crate::specs::Moves::disconnect_of))]
     pub(crate) fn disconnect(self) -> Result<Move, Refusal>
         ensures { let c = self.entry.cells in Gives self.entry result (λ t m e. disconnect_of t m c.marks.now c.warned.now e) }
