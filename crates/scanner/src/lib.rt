@@ -30,7 +30,7 @@ fn digit(byte: u8) -> Option<u32>
     char::from(byte).to_digit(10)
 }
 
-// "digits without sign or leading zero, zero being `0`"
+// "digits without sign or leading zero, zero being `0`": std's `parse` takes a plus sign and leading zeros.
 #[tactic(auto, unfolding(crate::specs::Values::number_of, crate::specs::Scanner::is_number, crate::specs::Scanner::all_digits))]
 fn number_of(value: &[u8]) -> Option<u32>
     ensures { result ≡ number_of value.now }
