@@ -1,6 +1,6 @@
 // The account record, and its step: in place, and by value.
 // It uses the calendar, the terms, the marks, the moves, and the ledger's event and refusals. Its promises cite specs/Step.antt and
-// specs/Record.antt. A place is a `usize` by `as`, which has no `From`.
+// specs/Record.antt. A place is cast by `as`, since u32 has no `From` into usize.
 #![tactic(auto)]
 
 ghost use Rattle.std.specs.Prelude.{◌≡◌};
@@ -26,7 +26,7 @@ pub struct Account {
     pub days: UsageDays,
     // one bit a mark kind
     pub marks: DayBytes,
-    // 1 on the days of accepted warnings, else 0: C's record has a byte a day
+    // 1 on the days of accepted warnings, else 0: a byte, since C's record may have any there
     pub warned: DayBytes,
     pub payments: Payments,
     pub charges: Charges,

@@ -1,6 +1,7 @@
 // The posting calls and the readings, at both sides of every limit of document 01.
 // The file stdin has the cases, and says how they are written. The file stdout has its lines again, and after a case's colon the answers:
 // these are worked out from the paper by hand, and none is copied from a run.
+// It uses the calendar's date, the terms, the ledger's event and refusals, the moves' totals, the account, and the posting and the reading calls.
 #![tactic(auto)]
 
 ghost use Rattle.ledger.specs.Refusals.{code_of};
@@ -39,7 +40,8 @@ const SORTS: [&str; 11] = [
 
 // ---- what a line says
 
-// The first numbers of a line; 0 for what is no number of 32 bits, and past the line's end.
+// The first numbers of a line; 0 for what is no number of 32 bits, and past the line's end, so that a line may leave out the fields that its sort
+// does not name.
 fn numbers<const N: usize>(line: &str) -> [u32; N] {
     let mut numbers = [0; N];
     for (number, word) in numbers.iter_mut().zip(line.split_ascii_whitespace()) {
@@ -98,7 +100,7 @@ fn event(word: &str, line: &str) -> Option<Event> {
         return Some(any_event(line));
     }
     let place = SORTS.iter().position(|sort| *sort == word)?;
-    // a place below 11, or a length: `usize` has no `From`
+    // a place below 11: usize has no `From` into u32
     Some(named_event(place as u32 + 1, line))
 }
 
@@ -115,8 +117,8 @@ fn way_of(line: &str) -> Way {
 }
 
 // The totals that are asked: after a refusal those before it; an accepted event counts once, by its day, and as a payment if it is a pay.
-fn asked(code: u8, e: Event, before: Totals, after: Totals) -> Totals {
-    if code != 0 {
+fn asked(answer: Result<u64, Refusal>, e: Event, before: Totals, after: Totals) -> Totals {
+    if answer.is_err() {
         return before;
     }
     Totals {
@@ -197,10 +199,9 @@ impl<P: Print> Line<'_, P> {
         if !self.is_case {
             return Ok(());
         }
-        let code = code(p.answer);
-        print!(self.rt; " {code} {}", p.answer.unwrap_or(0))?;
+        print!(self.rt; " {} {}", code(p.answer), p.answer.unwrap_or(0))?;
         self.say_sums()?;
-        self.compare(asked(code, e, before, self.account.totals))
+        self.compare(asked(p.answer, e, before, self.account.totals))
     }
 
     // Posts n events, and one at least. What is said is the code, or that the codes differ, which no line asks; and the balance and the plan
@@ -244,6 +245,7 @@ impl<P: Print> Line<'_, P> {
     fn post_row(&mut self, line: &str) -> io::Result<()> {
         let [events, bytes] = numbers::<2>(line);
         let mut buffer = [7; 8];
+        // (by `as`: u32 has no `From` into usize)
         let Some(codes) = buffer.get_mut(..bytes as usize) else {
             return Ok(());
         };
@@ -275,6 +277,7 @@ fn one(rt: &impl Print, account: &mut Account, part: &[u8]) -> io::Result<()> {
         account,
         is_case,
     };
+    // Each word takes numbers of its own, so a `match` is plainer than a closure for each.
     match word {
         "terms" => line.open(terms(rest)),
         "row" => line.post_row(rest),

@@ -44,7 +44,7 @@ pub enum Weekday {
     Sunday,
 }
 
-// The weekdays' numbers: Monday is 0. (By `as`, as a constant calls no `from`.)
+// The weekdays' numbers, by which the marks count: Monday is 0. (By `as`, as a constant calls no `from`.)
 pub const SATURDAY: u32 = Weekday::Saturday as u32;
 
 pub const SUNDAY: u32 = Weekday::Sunday as u32;
@@ -184,7 +184,7 @@ impl Date {
         (1..=month_length(self.year, self.month)).contains(&self.day)
     }
 
-    // The day after. A record out of reach is answered itself, since it could not fail before.
+    // The day after. A record out of reach is answered itself: a function that cannot fail may not come to.
     #[tactic(auto, using(crate::proofs::Laws::reached), unfolding(crate::specs::Calendar::next_of))]
     pub fn next(self) -> Date
         ensures { result ≡ next_answer self }
@@ -223,7 +223,7 @@ impl Date {
         Some(weekday_after(days_after(self)))
     }
 
-    // The number of the date's month, counted from that of the opening date; 0 of an earlier one, since it could not fail before.
+    // The number of the date's month, counted from that of the opening date; 0 of an earlier one: a function that cannot fail may not come to.
     #[tactic(auto, unfolding(crate::specs::Calendar::month_from))]
     pub fn month_from(self, opened: Date) -> u64
         ensures { result ≡ month_from opened self }
@@ -269,7 +269,8 @@ fn date_in(year: u32, left: u32) -> Date
     }
 }
 
-// The date of day k.
+// The date of day k. (Here and below the opening date and the day are two parameters, as the paper has them: of a struct of both a method would
+// read the same.)
 #[tactic(auto, using(crate::proofs::Years::opened, crate::proofs::Years::year_taken, crate::proofs::Years::year_range))]
 pub fn date_of(opened: Date, k: u32) -> Option<Date>
     ensures { result ≡ date_answer opened k }
@@ -277,6 +278,7 @@ pub fn date_of(opened: Date, k: u32) -> Option<Date>
     if !can_open(opened) || k > FINAL_DAY {
         return None;
     }
+    // No index: whole years are taken out while one is left.
     let mut year = opened.year;
     let mut left = days_before(leap(year), opened.month) + (opened.day - 1) + k;
     while left >= year_length(year) {

@@ -1,6 +1,6 @@
 // Demand 3, one theorem: over every list of posting calls, by the promises of the calls that run.
-// It uses the promises of `account::open`, of the posting and of the reading calls, and the ledger's definitions. proofs/Contracts.antt has
-// the same over the contracts of these calls as the toolchain compiled them.
+// It uses the promises of `account::open`, of the posting and of the reading calls, and the definitions of the terms, the ledger and the moves'
+// totals. proofs/Contracts.antt has the same over the contracts of these calls as the toolchain compiled them.
 #![tactic(auto)]
 
 ghost use Rattle.terms.specs.declared.Terms.{Terms};

@@ -51,6 +51,7 @@ pub struct TotalsImage {
     pub on: u32,
 }
 
+// (By `as`, as a constant calls no `from`.)
 const DAYS: usize = calendar::DAY_COUNT as usize;
 
 const PAYMENTS: usize = ledger::MAX_PAYMENTS as usize;
@@ -206,7 +207,8 @@ impl From<Totals> for TotalsImage {
 // ---- the record
 
 impl Image {
-    // Whether the numbers are the image of a record: no other state of a day, and 0 or 1 where the record has yes or no.
+    // Whether the numbers are the image of a record: states of a day that it has, nothing on a blank day, 0 or 1 where the record has yes or no, and
+    // nothing to spare.
     fn is_image(&self) -> bool
         ensures { result ≡ is_image self.now }
     {
@@ -218,7 +220,8 @@ impl Image {
 }
 
 // Of numbers that are no image a record that is no account, which every event gets 1 of: so the calls have an answer to any numbers, which a
-// `TryFrom` would leave to each of them.
+// `TryFrom` would leave to each of them. The arrays are made by `from_fn`: `map`, which keeps the elements in an iterator first, takes four times
+// as long.
 impl From<Image> for Account {
     ghost from_gives = { λ i a. a ≡ account_of i };
 
@@ -278,7 +281,7 @@ pub fn calls_agree()
 pub fn open(t: Terms) -> (Image, Result<(), Refusal>)
     ensures { opening_of result.0 result.1 ≡ opened_of t }
 {
-    let answer = t.is_valid().then_some(()).ok_or(Refusal::Terms);
+    let answer = account::open(t).map(|_| ());
     (Image::from(Account::fresh(t)), answer)
 }
 

@@ -1,6 +1,6 @@
 // A month's figures off the account record.
-// It uses the calendar, the terms, the ledger, the moves and the account, and the refinement in its promise, which says the figures twice: off the
-// record, and in the ledger's terms.
+// It uses the calendar, the ledger, the moves and the account, and in its promise the terms and the refinement: it says the figures twice, off the
+// record, and in the ledger's terms. A place is cast by `as`, since u32 has no `From` into usize.
 #![tactic(auto)]
 
 ghost use Rattle.std.specs.Prelude.{◌≡◌, ◌+◌, ◌*◌, ◌≤◌, ◌<◌, eqb};

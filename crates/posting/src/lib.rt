@@ -20,7 +20,7 @@ pub fn post(a: &mut Account, e: Event) -> Result<u64, Refusal>
     posted.answer
 }
 
-// One event, by value: the account is lent to `post`, and handed back with the answer.
+// One event, by value, in the form that lends an account to `post`: it is handed back with the answer.
 pub fn post_by_value(a: Account, e: Event) -> Posted<Account>
     ensures { Posts a e result.account (answer_record result.answer) }
 {

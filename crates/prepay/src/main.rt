@@ -1,6 +1,6 @@
 // `prepay`: an event text on standard input, its transcript on standard output.
 // It uses the event text's limit and the transcript. A read or a write that fails ends the program with its error.
-// Of a text that is too long it reads one byte more than the limit.
+// Of a text that is too long it reads one byte more than the limit, which `as` widens: usize has no `From` into u64.
 #![tactic(auto)]
 
 use std::io;
@@ -15,6 +15,7 @@ fn main(rt: HostRuntime) -> io::Result<()> {
     let mut writer = io::writer(&rt);
     let mut out = [0u8; 8192];
     let mut progress = Progress::begin(&text);
+    // piece by piece, no index
     while !progress.done {
         let length = progress.piece(&text, &mut out);
         writer.write_all(&out[..length])?;

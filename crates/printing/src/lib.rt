@@ -1,5 +1,5 @@
 // Words and numbers put as bytes into a lent buffer, one after the other. It uses `itoa` for the digits. Its promises cite specs/Printing.antt and
-// specs/Printer.antt.
+// specs/Printer.antt. No `write!`: std promises what that has put only where it answers `Ok`, and never that it does.
 #![tactic(auto)]
 
 ghost use Rattle.std.specs.Prelude.{◌≡◌, ◌++◌, ◌+◌, leb, length};

@@ -1,6 +1,7 @@
 // The reading calls: balance, unpaid plan, service, settled amount, cost of the standing estimates.
 // It uses the moves' totals; its promises name the terms, the ledger, the account and the refinement, too. Each says the answer twice: off the
-// totals, and in the ledger's terms. `balance` and `settled` answer 0 of totals that are no account's: they could not fail, and still cannot.
+// totals, and in the ledger's terms. `balance` and `settled` answer 0 of totals that are no account's: a
+// function that cannot fail may not come to.
 #![tactic(auto)]
 
 ghost use Rattle.std.specs.Prelude.{◌≡◌, ◌*◌, ◌≤◌, pos, ◌-ℤ◌};

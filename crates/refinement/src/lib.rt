@@ -1,5 +1,5 @@
 // The refinement: the account record represents the ledger, for one event and for lists of them.
-// It uses the account's and the ledger's definitions.
+// It uses the definitions of the account, the moves, the ledger, the terms and the calendar.
 #![tactic(auto)]
 
 ghost use Rattle.std.specs.Prelude.{◌≡◌, true};

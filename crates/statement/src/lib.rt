@@ -1,6 +1,6 @@
 // What `summary` prints for a text: its month figures, put whole into a lent buffer.
-// It uses the calendar, the terms, the ledger's refusals, the account, the posting call, the event text, the month's figures, the printing and
-// the transcript, and in its definitions the scanner's and the refinement's. Its promise cites specs/Statement.antt, and inside the crate
+// It uses the calendar, the ledger's refusals and summary, the account, the posting call, the event text, the month's figures, the printing and the
+// transcript, and in its definitions the terms, the scanner's and the refinement's. Its promise cites specs/Statement.antt, and inside the crate
 // specs/Work.antt.
 #![tactic(auto)]
 
@@ -21,7 +21,7 @@ use printing::Printer;
 pub const STATEMENT_ROOM: usize = 8192;
 
 // ---- one line: a field is a call, as its word stands in the definition. A table would cut each word to a slice (`&b".."[..]`), for their
-// lengths differ.
+// lengths differ. The room differs by call, so it is asked for and is no invariant of a printer.
 
 // The month, its code and its payments.
 fn put_payments(page: &mut Printer, m: u32, s: Summary)
@@ -102,6 +102,7 @@ fn open(text: &[u8]) -> Result<(Account, &[u8]), Refusal>
 fn post_events(a: &mut Account, text: &[u8])
     ensures { a.new ≡ account_after a.old (events_of text.now) }
 {
+    // No index: it goes on while an event stands there.
     let mut rest = text;
     while let Some((event, after)) = text::read_event(rest) {
         // a refused event leaves the account as it is

@@ -1,6 +1,6 @@
 // `summary`: an event text on standard input, a line for each month of the account on standard output.
 // It uses the event text's limit and the statement. A read or a write that fails ends the program with its error.
-// Of a text that is too long it reads one byte more than the limit.
+// Of a text that is too long it reads one byte more than the limit, which `as` widens: usize has no `From` into u64.
 #![tactic(auto)]
 
 use std::io;

@@ -34,7 +34,7 @@ pub const TRANSCRIPT_ROOM: usize = 655360;
 pub struct Progress {
     // the account after the events printed; one of refused terms too, as the promise has it
     pub account: Account,
-    // where the next event starts, and how many were printed
+    // where the next event starts, a place since the text is lent anew for each piece, and how many were printed
     pub at: usize,
     pub count: u64,
     // 0, or the code of terms that are malformed or refused: a number, since a narrower type would ask more of callers
@@ -58,7 +58,7 @@ fn put_event(page: &mut Printer, n: u64, answer: Answer, s: Totals)
     page.put_bytes(b"\n");
 }
 
-// The line of refused or malformed terms.
+// The line of refused or malformed terms, by their code, which is what a progress keeps.
 fn put_terms(page: &mut Printer, code: u8)
     requires { HasRoom page.old event_room }
     ensures { Writes page.old (terms_line code) page.new }
@@ -136,6 +136,7 @@ impl Progress {
         ensures { Piece text.now (reached self.old 0) out.old out.new (reached self.new result) }
     {
         let mut page = Printer { out, at: 0 };
+        // No index: it goes on where the last piece ended, and stops at the text's end, for want of room, or at a break of the form.
         while self.at < text.len() {
             if page.out.len() - page.at < PIECE_ROOM {
                 return page.at;
@@ -160,8 +161,7 @@ impl Progress {
         page.at
     }
 
-    // The next piece, from the start of the buffer on, and how many bytes it has. A buffer shorter than `PIECE_ROOM` gets none: 0, since C takes the
-    // answer as a length.
+    // The next piece, from the start of the buffer on, and how many bytes it has. A buffer shorter than `PIECE_ROOM` gets none, which has 0 bytes.
     pub fn piece(&mut self, text: &[u8], out: &mut [u8]) -> usize
         ensures piece { Piece text.now (reached self.old 0) out.old out.new (reached self.new result) }
 
@@ -171,6 +171,7 @@ impl Progress {
         if out.len() < PIECE_ROOM || self.done {
             return 0;
         }
+        // (By `as`: usize has no `From` into u64.)
         if self.count > self.at as u64 {
             self.done = true;
             return 0;
