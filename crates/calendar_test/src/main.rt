@@ -1,5 +1,6 @@
 // The calendar's answers to the questions of the file stdin, which says how they are written.
 // The file stdout has the answers: to `all` those of Python's datetime (make_vectors.py), to the others worked out by hand.
+// It uses the calendar.
 #![tactic(auto)]
 
 use calendar::{Date, MONTH_COUNT, Weekday};
@@ -18,48 +19,58 @@ fn weekday_number(w: Option<Weekday>) -> u32 {
     w.map_or(NO_WEEKDAY, u32::from)
 }
 
-fn exists(out: &mut impl Write, d: Date) -> io::Result<()> {
-    let is_date = u8::from(d.exists());
-    let can_open = u8::from(calendar::can_open(d));
-    write!(out, " {is_date} {can_open}")
+// The answers about an opening date, and where they go.
+#[derive(Drop)]
+struct Answers<'a, W> {
+    out: &'a mut W,
+    opened: Date,
 }
 
-// A number, or that there is none.
-fn say(out: &mut impl Write, n: Option<u64>) -> io::Result<()> {
-    match n {
-        Some(n) => write!(out, " {n}"),
-        None => write!(out, " outside"),
+impl<W: Write> Answers<'_, W> {
+    fn exists(&mut self, d: Date) -> io::Result<()> {
+        let is_date = u8::from(d.exists());
+        let can_open = u8::from(calendar::can_open(d));
+        write!(self.out, " {is_date} {can_open}")
+    }
+
+    // A number, or that there is none.
+    fn say(&mut self, n: Option<u64>) -> io::Result<()> {
+        match n {
+            Some(n) => write!(self.out, " {n}"),
+            None => write!(self.out, " outside"),
+        }
+    }
+
+    fn day(&mut self, k: u32) -> io::Result<()> {
+        self.say(calendar::date_of(self.opened, k).map(number_of))?;
+        let weekday = weekday_number(calendar::weekday_of(self.opened, k));
+        let month = calendar::month_of(self.opened, k).unwrap_or(MONTH_COUNT);
+        write!(self.out, " {weekday} {month}")
+    }
+
+    fn number(&mut self, d: Date) -> io::Result<()> {
+        self.say(calendar::day_of(self.opened, d).map(u64::from))
+    }
+
+    fn month(&mut self, m: u32) -> io::Result<()> {
+        let days = calendar::days_of(self.opened, m).unwrap_or(0..0);
+        write!(self.out, " {} {}", days.start, days.end)
+    }
+
+    fn all(&mut self, k: u32, d: Date, m: u32) -> io::Result<()> {
+        self.exists(self.opened)?;
+        self.exists(d)?;
+        self.day(k)?;
+        self.number(d)?;
+        self.month(m)?;
+        let next = number_of(d.next());
+        let weekday = weekday_number(d.weekday());
+        write!(self.out, " {next} {weekday} {}", d.month_from(self.opened))
     }
 }
 
-fn day(out: &mut impl Write, opened: Date, k: u32) -> io::Result<()> {
-    say(out, calendar::date_of(opened, k).map(number_of))?;
-    let weekday = weekday_number(calendar::weekday_of(opened, k));
-    let month = calendar::month_of(opened, k).unwrap_or(MONTH_COUNT);
-    write!(out, " {weekday} {month}")
-}
-
-fn number(out: &mut impl Write, opened: Date, d: Date) -> io::Result<()> {
-    say(out, calendar::day_of(opened, d).map(u64::from))
-}
-
-fn month(out: &mut impl Write, opened: Date, m: u32) -> io::Result<()> {
-    let days = calendar::days_of(opened, m).unwrap_or(0..0);
-    write!(out, " {} {}", days.start, days.end)
-}
-
-fn all(out: &mut impl Write, opened: Date, k: u32, d: Date, m: u32) -> io::Result<()> {
-    exists(out, opened)?;
-    exists(out, d)?;
-    day(out, opened, k)?;
-    number(out, opened, d)?;
-    month(out, opened, m)?;
-    let next = number_of(d.next());
-    let weekday = weekday_number(d.weekday());
-    write!(out, " {next} {weekday} {}", d.month_from(opened))
-}
-
-// The first numbers of a line, those of a date too; 0 for what is no number of 32 bits, and past the line's end. (account_test has the like
+// The first numbers of a line, those of a date too; 0 for what is no number of 32 bits, and past the line's end: the questions are of any
+// numbers. (account_test has the like
 // for its words: a crate for the two would be no shorter.)
 fn numbers<const N: usize>(line: &str) -> [u32; N] {
     let mut numbers = [0; N];
@@ -77,23 +88,24 @@ fn opening(line: &str) -> Date {
 // Each question takes numbers of its own, so a `match` is plainer than a closure for each.
 fn ask(out: &mut impl Write, word: &str, line: &str) -> io::Result<()> {
     let opened = opening(line);
+    let mut answers = Answers { out, opened };
     match word {
-        "exists" => exists(out, opened),
+        "exists" => answers.exists(opened),
         "day" => {
             let [_, _, _, k] = numbers::<4>(line);
-            day(out, opened, k)
+            answers.day(k)
         }
         "number" => {
             let [_, _, _, year, month, day] = numbers::<6>(line);
-            number(out, opened, Date { year, month, day })
+            answers.number(Date { year, month, day })
         }
         "month" => {
             let [_, _, _, m] = numbers::<4>(line);
-            month(out, opened, m)
+            answers.month(m)
         }
         _ => {
             let [_, _, _, k, year, month, day, m] = numbers::<8>(line);
-            all(out, opened, k, Date { year, month, day }, m)
+            answers.all(k, Date { year, month, day }, m)
         }
     }
 }

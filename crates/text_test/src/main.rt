@@ -1,12 +1,11 @@
 // The transcripts of texts that break their form, at each kind of line, and of texts beside them that do not.
-// It uses the event text's limit, the printing and the transcript.
+// It uses the transcript.
 // The file stdin has the cases, each its name, which begins with `#`, and its text, a `%` after both. What follows a `*` stands in the text
 // 4,675 times.
 // A name has `P` where the usual terms and a payment of 6000 on day 0 stand first in the text, and `T` where the terms do.
 // The file stdout is worked out from document 01 by hand; none of its lines is copied from a run.
 #![tactic(auto)]
 
-use printing::Printer;
 use std::io;
 use std::io::{BufWriter, Read, Write};
 use transcript::TRANSCRIPT_ROOM;
@@ -34,41 +33,32 @@ fn short_buffer(to: &mut impl Write) -> io::Result<()> {
     writeln!(to, "{length} bytes")
 }
 
-// The lines and 4,675 times the piece, and how many bytes they have.
-fn repeated(text: &mut [u8], lines: &[u8], piece: &[u8]) -> usize {
-    let mut page = Printer { out: text, at: 0 };
-    page.put_bytes(lines);
+// The lines and 4,675 times the piece.
+fn long(rt: &HostRuntime, to: &mut impl Write, lines: &[u8], piece: &[u8]) -> io::Result<()> {
+    let mut text = Vec::new(rt.alloc());
+    text.extend_from_slice(lines)?;
     for _ in 0..4675 {
-        page.put_bytes(piece);
+        text.extend_from_slice(piece)?;
     }
-    page.at
-}
-
-fn long(to: &mut impl Write, lines: &[u8], piece: &[u8]) -> io::Result<()> {
-    let mut text = [0u8; text::MAX_TEXT + 1];
-    let length = repeated(&mut text, lines, piece);
-    match text.get(..length) {
-        Some(text) => show(to, text),
-        None => Ok(()),
-    }
+    show(to, &text)
 }
 
 // A name, or a text.
-fn one(to: &mut impl Write, part: &[u8]) -> io::Result<()> {
+fn one(rt: &HostRuntime, to: &mut impl Write, part: &[u8]) -> io::Result<()> {
     if part.starts_with(b"#") {
         return to.write_all(part);
     }
     match part.iter().position(|b| *b == b'*') {
-        Some(star) => long(to, &part[..star], &part[star + 1..]),
+        Some(star) => long(rt, to, &part[..star], &part[star + 1..]),
         None => show(to, part),
     }
 }
 
 // The parts, each ended by a `%`.
-fn all(to: &mut impl Write, cases: &[u8]) -> io::Result<()> {
+fn all(rt: &HostRuntime, to: &mut impl Write, cases: &[u8]) -> io::Result<()> {
     for part in cases.split_inclusive(|b| *b == b'%') {
         if let Some(part) = part.strip_suffix(b"%") {
-            one(to, part)?;
+            one(rt, to, part)?;
         }
     }
     Ok(())
@@ -79,7 +69,7 @@ fn main(rt: HostRuntime) -> io::Result<()> {
     let mut cases = Vec::new(rt.alloc());
     rt.reader().take(65536).read_to_end(&mut cases)?;
     let mut to = BufWriter::new(rt.alloc(), io::writer(&rt))?;
-    all(&mut to, &cases)?;
+    all(&rt, &mut to, &cases)?;
     short_buffer(&mut to)?;
     to.flush()
 }
