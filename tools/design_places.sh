@@ -19,6 +19,7 @@ places "equality" 'fn (same|same_sums|same_counts)\('
 places "conversion" 'fn (flag|usage_of|usage_image|days_of|day_images|payment_of|payment_image|payments_of|payment_images|totals_of|totals_image|magnitude)\('
 places "structs of zeros, by their first field" '^ *(credit|count|wh|code|year|day|word|sort): 0,$|\{ (count|wh): 0,'
 places "printing" 'fn (put_[a-z_]+|spell|places|say_signed|say_bytes|say_whether)\('
+printf '%5d  %s\n' "$(grep -rhoE ' as (u8|u32|u64|i64|usize)' crates/*/src | wc -l)" "casts by as"
 echo "5 facts and parameters that go together"
 places "a buffer and a place in it" 'out: &mut \[u8\], at: usize|^ *(out|text): &(mut )?\[u8\],$'
 places "a text and a place in it" 'text: &\[u8\], (at|start|from): usize'

@@ -1,5 +1,5 @@
 // The C interface of the account software (include/head.h). Level 1: a text to its transcript, a text to its month figures. Level 2: the
-// account as an image in the caller's memory, opened, posted to and read.
+// account as an image in the caller's memory, opened, posted to and read. Codes are numbers there.
 // It uses the terms, the ledger's event and answers, the account, the image, the posting calls, the transcript and the statement. Its promises cite specs/Interface.antt.
 #![tactic(auto)]
 

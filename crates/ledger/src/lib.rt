@@ -38,7 +38,7 @@ impl From<Refusal> for u8 {
     }
 }
 
-// The code of an answer: 0 where it is no refusal.
+// The code of an answer, as C gets it: 0 where it is no refusal.
 pub fn code<T: Drop>(answer: Result<T, Refusal>) -> u8
     ensures { result ≡ code_of answer }
 {
@@ -114,7 +114,7 @@ pub struct Used {
     pub cost: u64,
 }
 
-// A sum for each charge kind, 1 to 5, in cents.
+// A sum for each charge kind, 1 to 5, in cents. (By `as`, as a constant calls no `from`.)
 pub type KindSums = [u64; CHARGE_KIND_COUNT as usize];
 
 // A month's figures (specs/Months.antt).

@@ -23,7 +23,7 @@ fn mark_bit(kind: u32) -> u8
     }
 }
 
-// Sets the kind's mark from day `from` to day `to`.
+// Sets the kind's mark from day `from` to day `to`, as the event has them.
 #[tactic(auto, using(crate::proofs::Turns::mark_none), unfolding(crate::specs::Marks::marked))]
 pub fn set(marks: &mut DayBytes, kind: u32, from: u32, to: u32)
     ensures { marks.new ≡ marked marks.old kind from to }

@@ -49,7 +49,7 @@ fn paid_in(payments: &Payments, count: u32, days: &Range<u32>) -> (Counted, Coun
     (kept, reversed)
 }
 
-// One usage day more.
+// One usage day more: as for payments, but C's records `Used` and `Counted` have other fields.
 fn add_usage(used: &mut Used, wh: u32, cost: u32)
     requires { (used.old.wh ≤ day_count * max_field) × (used.old.cost ≤ day_count * max_field) }
     ensures { used.new ≡ record { wh = used.old.wh + wh; cost = used.old.cost + cost } }
