@@ -289,7 +289,8 @@ fn one(rt: &impl Print, account: &mut Account, part: &[u8]) -> io::Result<()> {
     }
 }
 
-// The cases are the first 65,536 bytes of standard input.
+// The cases are the first 65,536 bytes of standard input. (For these two lines a crate of the programs would be no
+// shorter.)
 fn main(rt: HostRuntime) -> io::Result<()> {
     let mut text = Vec::new(rt.alloc());
     rt.reader().take(65536).read_to_end(&mut text)?;

@@ -52,7 +52,7 @@ pub const SUNDAY: u32 = Weekday::Sunday as u32;
 // "1 ≤ x − w ≤ 7": for so many days after its own a warning serves.
 pub const WARNING_DAYS: u32 = 7;
 
-// 0 for Monday to 6 for Sunday.
+// 0 for Monday to 6 for Sunday, which `as` gives of an enum.
 impl From<Weekday> for u32 {
     ghost from_gives = { λ w n. n ≡ weekday_number w };
 
@@ -159,7 +159,7 @@ pub fn can_open(d: Date) -> bool
     is_date_until(d, LAST_YEAR)
 }
 
-// The weekday n days after 2000-01-01, which was a Saturday.
+// The weekday n days after 2000-01-01, which was a Saturday: no conversion, since n counts days.
 #[tactic(auto, using(crate::proofs::Laws::weekdays))]
 fn weekday_after(n: u32) -> Weekday
     ensures { weekday_number result ≡ weekday_after n }

@@ -10,7 +10,7 @@ use std::io::{BufWriter, Read, Write};
 // What the file stdout has where there is no weekday; for no month it has `MONTH_COUNT`, and 0 and 0 for a month without days.
 const NO_WEEKDAY: u32 = 7;
 
-// Year, month and day as one number.
+// Year, month and day as one number, as the file stdout has a date.
 fn number_of(d: Date) -> u64 {
     u64::from(d.year) * 10000 + u64::from(d.month) * 100 + u64::from(d.day)
 }
@@ -70,8 +70,7 @@ impl<W: Write> Answers<'_, W> {
 }
 
 // The first numbers of a line, those of a date too; 0 for what is no number of 32 bits, and past the line's end: the questions are of any
-// numbers. (account_test has the like
-// for its words: a crate for the two would be no shorter.)
+// numbers. (account_test has the like for its words: a crate for the two would be no shorter.)
 fn numbers<const N: usize>(line: &str) -> [u32; N] {
     let mut numbers = [0; N];
     for (number, word) in numbers.iter_mut().zip(line.split([' ', '-'])) {
@@ -121,7 +120,8 @@ fn one(out: &mut impl Write, line: &str) -> io::Result<()> {
     writeln!(out)
 }
 
-// The questions are the lines of the first 65,536 bytes of standard input.
+// The questions are the lines of the first 65,536 bytes of standard input. (For these two lines a crate of the programs would be no
+// shorter.)
 fn main(rt: HostRuntime) -> io::Result<()> {
     let mut text = Vec::new(rt.alloc());
     rt.reader().take(65536).read_to_end(&mut text)?;

@@ -42,6 +42,7 @@ module _ {A B : Type 0} (p : B → Bool) (f : A → B) (g : B → A) (h : Pair p
 
 -- ---- yes or no
 
+-- (std has no such lemma)
 pub flag_is : (b : Bool) → from_bool b ≡ cond b 1 0
 flag_is true = refl
 flag_is false = refl

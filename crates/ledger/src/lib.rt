@@ -29,7 +29,7 @@ pub enum Refusal {
     Buffer,
 }
 
-// The table's number.
+// The table's number, which `as` gives of an enum.
 impl From<Refusal> for u8 {
     ghost from_gives = { λ r n. n ≡ refusal_code r };
 

@@ -36,11 +36,14 @@ pub fn post_row(a: &mut Account, row: &[Event], codes: &mut [u8]) -> Result<(), 
     if codes.len() < row.len() {
         return Err(Refusal::Buffer);
     }
+    // Kept here, the account is copied twice an event, and not three times.
+    let mut account = *a;
     // The codes are written by index: `zip` with `iter_mut` keeps only the length for a proof.
     for (i, event) in row.iter().enumerate() {
-        let p = step(*a, *event);
-        *a = p.account;
+        let p = step(account, *event);
+        account = p.account;
         codes[i] = code(p.answer);
     }
+    *a = account;
     Ok(())
 }

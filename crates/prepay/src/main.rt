@@ -1,6 +1,7 @@
 // `prepay`: an event text on standard input, its transcript on standard output.
 // It uses the event text's limit and the transcript. A read or a write that fails ends the program with its error.
 // Of a text that is too long it reads one byte more than the limit, which `as` widens: usize has no `From` into u64.
+// (For the lines that read, a crate of the programs would be no shorter.)
 #![tactic(auto)]
 
 use std::io;

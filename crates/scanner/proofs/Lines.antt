@@ -36,7 +36,7 @@ unfolding read_line
 line-first [] = refl
 line-first (b ∷ s) = feed-turn (eqb b 10) b s _ (first s) (rw (line-first s) (line-turn b (first s) s))
 
-cond_none : (t : Bool) (n : ℕ) → None ≡ cond t (Some n) None → t ≡ false
+pub cond_none : (t : Bool) (n : ℕ) → None ≡ cond t (Some n) None → t ≡ false
 cond_none true n h = absurd (cc)
 cond_none false n h = refl
 

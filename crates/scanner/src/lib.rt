@@ -6,7 +6,7 @@
 
 ghost use Rattle.std.specs.Prelude.{◌≡◌};
 ghost use Rattle.scanner.specs.Scanner.{IsRead, IsValueRead, read_value, read_number, read_date};
-ghost use Rattle.scanner.specs.Values.{digit_of, number_of, two_digits_of, date_of};
+ghost use Rattle.scanner.specs.Values.{digit_of, decimal, number_of, two_digits_of, date_of};
 
 use calendar::Date;
 
@@ -30,14 +30,27 @@ fn digit(byte: u8) -> Option<u32>
     char::from(byte).to_digit(10)
 }
 
-// "digits without sign or leading zero, zero being `0`": std's `parse` takes a plus sign and leading zeros.
-#[tactic(auto, unfolding(crate::specs::Values::number_of, crate::specs::Scanner::is_number, crate::specs::Scanner::all_digits))]
+// The number that some digits make, none where it is above 4,294,967,295. (std's `parse`,
+// which takes a plus sign too, was tried behind `from_utf8`: `prepay` is slower than the Rust program with it, docs/DESIGN-PASS.md, "Measured".)
+#[tactic(auto, using(crate::proofs::Numbers::digit_steps))]
+fn decimal(digits: &[u8]) -> Option<u32>
+    ensures { result ≡ decimal digits.now }
+{
+    let mut number: u32 = 0;
+    for byte in digits {
+        number = number.checked_mul(10)?.checked_add(digit(*byte)?)?;
+    }
+    Some(number)
+}
+
+// "digits without sign or leading zero, zero being `0`"
+#[tactic(auto, unfolding(crate::specs::Values::number_of, crate::specs::Values::decimal, crate::specs::Scanner::is_number))]
 fn number_of(value: &[u8]) -> Option<u32>
     ensures { result ≡ number_of value.now }
 {
     match value {
-        [b'+', ..] | [b'0', _, ..] => None,
-        _ => str::from_utf8(value).ok()?.parse().ok(),
+        [] | [b'0', _, ..] => None,
+        _ => decimal(value),
     }
 }
 

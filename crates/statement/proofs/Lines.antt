@@ -20,6 +20,7 @@ use Rattle.statement.specs.Statement.{two_fields, summary_line, month_lines}
 pub then-fields : (one : List ℕ) (n : ℕ) (two : List ℕ) (k : ℕ) (rest : List ℕ) → two_fields one n two k ++ rest ≡ one ++ (decimal n ++ (two ++ (decimal k ++ rest)))
 then-fields one n two k rest = simp append_assoc
 
+-- (std has no such lemma)
 pub flag : (b : Bool) → bool_byte b ≡ cond b 1 0
 flag true = refl
 flag false = refl
