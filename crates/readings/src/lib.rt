@@ -1,8 +1,7 @@
 // The reading calls: balance, unpaid plan, service, settled amount, cost of the standing estimates.
-// It uses the moves' totals; its promises name the terms, the ledger, the account and the refinement, too, which lie above the totals, so that these are
-// functions and no methods: a trait for five calls would be no plainer. Each says the answer twice: off the
-// totals, and in the ledger's terms. `balance` and `settled` answer 0 of totals that are no account's: a
-// function that cannot fail may not come to.
+// It uses the moves' totals; its promises name the terms, the ledger, the account and the refinement, too, which lie above the totals, so that these
+// are functions and no methods: a trait for five calls would be no plainer. Each says the answer twice: off the totals, and in the ledger's terms.
+// `balance` and `settled` answer 0 of totals that are no account's: a function that cannot fail may not come to.
 #![tactic(auto)]
 
 ghost use Rattle.std.specs.Prelude.{◌≡◌, ◌*◌, ◌≤◌, pos, ◌-ℤ◌};
