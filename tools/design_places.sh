@@ -29,7 +29,7 @@ echo "6 buffers with a length, parallel arrays"
 places "a buffer and its length, as parameters or fields" 'out: &\[u8\], length: usize|^    pub length: usize,'
 places "arrays of the record and of the image" '^    pub (days|marks|warned|payments|charges): '
 echo "7 switches"
-places "match on a number, a word or a field" 'match (sort|kind|field|word|at) \{'
+places "match on a number, a word or a field" 'match [a-z.]*(sort|kind|field|word|at) \{'
 echo "8 proofs"
 places "answers" '^(abbrev )?pub [a-zA-Z0-9_-]+ : goal\.' 'crates/*/proofs --include=Answers.antt'
 printf '%5d  %s\n' "$(find crates/*/proofs -name '*.antt' -exec cat {} + | wc -l)" "lines of proofs"

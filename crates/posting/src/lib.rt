@@ -36,14 +36,10 @@ pub fn post_row(a: &mut Account, row: &[Event], codes: &mut [u8]) -> Result<(), 
     if codes.len() < row.len() {
         return Err(Refusal::Buffer);
     }
-    // Kept here, the account is copied twice an event, and not three times.
-    let mut account = *a;
     // The codes are written by index: `zip` with `iter_mut` keeps only the length for a proof.
     for (i, event) in row.iter().enumerate() {
-        let p = step(account, *event);
-        account = p.account;
-        codes[i] = code(p.answer);
+        let answer = a.post(*event);
+        codes[i] = code(answer);
     }
-    *a = account;
     Ok(())
 }

@@ -9,9 +9,9 @@ returns-then-codes-row c = short _ _ _ (search rules)
 
 pub loop-i-preserved : goal.loop-i-preserved
 loop-i-preserved c =
-    goes_on _ _ _ c.loop-i.i c.loop-i.account c.loop-i.codes _ _ _ c.loop-i-test.true c.if-codes-row.false c.loop-i.invariant
-    (ap (λ (s : Stepped). s.account) c.step-p.ensures)
-    (c.code.ensures ∙ ap (λ (s : Stepped). s.code) c.step-p.ensures)
+    goes_on _ _ _ c.loop-i.i c.loop-i.a c.loop-i.codes _ _ _ c.loop-i-test.true c.if-codes-row.false c.loop-i.invariant
+    (ap (λ (s : Stepped). s.account) c.post-answer.ensures)
+    (c.code.ensures ∙ ap (λ (s : Stepped). s.code) c.post-answer.ensures)
 
 pub returns : goal.returns
 returns c = ends _ _ _ _ _ _ (search rules) c.loop-i-test.false c.loop-i.invariant
