@@ -97,7 +97,7 @@ pub struct Posted<R> {
     pub answer: Result<u64, Refusal>,
 }
 
-// One event, by value.
+// One event, by value: the step of `posting::post`, which the project names.
 pub fn step(mut account: Account, e: Event) -> Posted<Account>
     ensures { stepped_of result.account result.answer ≡ step_of account e }
 {

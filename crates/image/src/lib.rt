@@ -220,8 +220,8 @@ impl Image {
 }
 
 // Of numbers that are no image a record that is no account, which every event gets 1 of: so the calls have an answer to any numbers, which a
-// `TryFrom` would leave to each of them. The arrays are made by `from_fn`: `map`, which keeps the elements in an iterator first, takes four times
-// as long.
+// `TryFrom` would leave to each of them. The arrays are made by `from_fn`: with `map`, which keeps the elements in an iterator first, a post takes
+// three times as long.
 impl From<Image> for Account {
     ghost from_gives = { λ i a. a ≡ account_of i };
 

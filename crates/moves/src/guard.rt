@@ -58,7 +58,7 @@ impl<'a> Checked<'a> {
         })
     }
 
-    // The weekday of the event's day.
+    // The weekday of the event's day. (This and the next differ in the call.)
     #[tactic(auto, using(crate::proofs::Early::weekday_is))]
     pub(crate) fn weekday(self) -> Weekday
         ensures { let c = self.entry in weekday_number result ≡ weekday_on c.cells.terms.opened c.event.day }

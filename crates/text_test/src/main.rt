@@ -26,6 +26,7 @@ fn show(to: &mut impl Write, text: &[u8]) -> io::Result<()> {
     say(to, &out[..length])
 }
 
+// As `show`, but the length alone, which is 0.
 fn short_buffer(to: &mut impl Write) -> io::Result<()> {
     let mut out = [0u8; TRANSCRIPT_ROOM - 1];
     let length = transcript::transcript(b"", &mut out);

@@ -6,12 +6,6 @@ use Rattle.statement.specs.Statement.{events_of}
 use Rattle.statement.proofs.Events.{posts, ends}
 use Rattle.statement.proofs.post_events.Goals as goal
 
-pub loop-event-init : goal.loop-event-init
-loop-event-init c = refl
-
-pub loop-event-smaller : goal.loop-event-smaller
-loop-event-smaller c = omega (arith, c.in-Some.ensures.shorter)
-
 pub loop-event-preserved : goal.loop-event-preserved
 loop-event-preserved c =
     ap (λ (a : Account). account_after a (events_of c.in-Some.after.now)) c.post.ensures.account

@@ -9,9 +9,6 @@ use Rattle.statement.proofs.Whole.{months-printed}
 use Rattle.statement.proofs.statement.Goals.{in-Ok, in-Err}
 use Rattle.statement.proofs.statement.Goals as goal
 
-pub returns-then-out-lt-STATEMENT_ROOM : goal.returns-then-out-lt-STATEMENT_ROOM
-returns-then-out-lt-STATEMENT_ROOM c = none-put _ _ _ c.if-out-lt-STATEMENT_ROOM.true
-
 pub returns : goal.returns
 unfolding summaries
 returns c =

@@ -12,9 +12,6 @@ use Rattle.transcript.proofs.Progress.put_events.Goals as goal
 pub loop-self-init : goal.loop-self-init
 loop-self-init c = let r = c.requires in (refl, r.1, r.0, begins _ _ _ _ _ r.3 r.2)
 
-pub overflow_sub-page : goal.overflow_sub-page
-overflow_sub-page c = omega (arith, c.loop-self.invariant.3.room)
-
 pub returns-then-page-lt-PIECE_ROOM : goal.returns-then-page-lt-PIECE_ROOM
 returns-then-page-lt-PIECE_ROOM c =
     let r = c.requires in
@@ -22,31 +19,6 @@ returns-then-page-lt-PIECE_ROOM c =
     in-buffer c.loop-self.page.out.now (search (rules, sym i.0))
     (left-as c.loop-self.self _ _ i.1 i.2
     (pauses _ _ _ _ _ _ _ _ i.3 r.0 r.1 r.2 r.3 c.loop-self-test.true c.if-page-lt-PIECE_ROOM.true))
-
-pub slice_bounds-read_event-count : goal.slice_bounds-read_event-count
-slice_bounds-read_event-count c = omega (arith, c.loop-self-test.true)
-
-pub overflow_add-self : goal.overflow_add-self
-overflow_add-self c = omega (arith, c.loop-self.invariant.3.counted, c.loop-self-test.true)
-
-pub put_event-requires : goal.put_event-requires
-put_event-requires c = omega (arith, c.loop-self.invariant.3.room, c.if-page-lt-PIECE_ROOM.false)
-
-pub overflow_sub-self : goal.overflow_sub-self
-overflow_sub-self c =
-    let e = rw (from-place c.args.text.now c.loop-self.self.at) at c.in-Some.ensures in
-    omega (arith, e.shorter, length-drop c.loop-self.self.at c.args.text.now)
-
-pub overflow_add-self-in-loop-self : goal.overflow_add-self-in-loop-self
-overflow_add-self-in-loop-self c = omega (arith, c.loop-self.invariant.3.counted, c.loop-self-test.true)
-
-pub put_event-requires-in-loop-self : goal.put_event-requires-in-loop-self
-put_event-requires-in-loop-self c = omega (arith, c.loop-self.invariant.3.room, c.if-page-lt-PIECE_ROOM.false)
-
-pub loop-self-smaller : goal.loop-self-smaller
-loop-self-smaller c =
-    let e = rw (from-place c.args.text.now c.loop-self.self.at) at c.in-Some.ensures in
-    omega (arith, e.shorter, c.loop-self-test.true, length-drop c.loop-self.self.at c.args.text.now)
 
 pub loop-self-preserved : goal.loop-self-preserved
 loop-self-preserved c =
