@@ -207,8 +207,8 @@ impl From<Totals> for TotalsImage {
 // ---- the record
 
 impl Image {
-    // Whether the numbers are the image of a record: states of a day that it has, nothing on a blank day, 0 or 1 where the record has yes or no, and
-    // nothing to spare.
+    // Whether the numbers are the image of a record: a state that a day has, 0 Wh and 0 cents on a blank day, 0 or 1 where the record has yes or no,
+    // and 0 in `spare`.
     fn is_image(&self) -> bool
         ensures { result ≡ is_image self.now }
     {

@@ -16,7 +16,7 @@ fn main(rt: HostRuntime) -> io::Result<()> {
     let mut writer = io::writer(&rt);
     let mut out = [0u8; 8192];
     let mut progress = Progress::begin(&text);
-    // piece by piece, no index
+    // Piece by piece, until none is left.
     while !progress.done {
         let length = progress.piece(&text, &mut out);
         writer.write_all(&out[..length])?;

@@ -102,7 +102,7 @@ fn open(text: &[u8]) -> Result<(Account, &[u8]), Refusal>
 fn post_events(a: &mut Account, text: &[u8])
     ensures { a.new ≡ account_after a.old (events_of text.now) }
 {
-    // No index: it goes on while an event stands there.
+    // While an event stands there: there is nothing to count.
     let mut rest = text;
     while let Some((event, after)) = text::read_event(rest) {
         // a refused event leaves the account as it is

@@ -136,7 +136,7 @@ impl Progress {
         ensures { Piece text.now (reached self.old 0) out.old out.new (reached self.new result) }
     {
         let mut page = Printer { out, at: 0 };
-        // No index: it goes on where the last piece ended, and stops at the text's end, for want of room, or at a break of the form.
+        // It goes on where the last piece ended, and stops at the text's end, where there is no room, or where the form is broken.
         while self.at < text.len() {
             if page.out.len() - page.at < PIECE_ROOM {
                 return page.at;
