@@ -6,7 +6,7 @@ use mathlib.Core.Bool.{Bool, true, false, cond, ◌&&◌}
 use mathlib.Core.List.{List, [], ◌∷◌, map}
 use lib.Dec.{leb, eqb, eqb-suc-zero}
 use borrow.Author.Tests.{eqb-true, leb-true}
-use Rattle.std.specs.Int.{from_bool}
+pub use Rattle.months.proofs.Flags.{flag_is}
 use Rattle.std.specs.List.{list_all}
 use Rattle.std.proofs.lemmas.Bool.{and_parts, cond-true}
 use Rattle.moves.specs.declared.Usage.{Usage}
@@ -41,11 +41,6 @@ module _ {A B : Type 0} (p : B → Bool) (f : A → B) (g : B → A) (h : Pair p
   lists = record { image = all-images; back = all_back; forth = all-forth }
 
 -- ---- yes or no
-
--- (std has no such lemma)
-pub flag_is : (b : Bool) → from_bool b ≡ cond b 1 0
-flag_is true = refl
-flag_is false = refl
 
 flag-image : (b : Bool) → leb (cond b 1 0) 1 ≡ true
 flag-image true = refl

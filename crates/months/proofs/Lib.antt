@@ -1,5 +1,6 @@
+pub mod Agrees
+pub mod Flags
+pub mod Numbers
+pub mod Span
 pub mod Sums
 pub mod Turns
-pub mod Span
-pub mod Numbers
-pub mod Agrees

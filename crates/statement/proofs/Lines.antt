@@ -1,11 +1,9 @@
 -- A line's fields one after the other, a flag's number, and the months' lines one after the other. Assumes nothing.
 use mathlib.Core.Path.{◌≡◌, refl, sym}
-use mathlib.Core.Bool.{Bool, true, false, cond}
 use mathlib.Core.List.{List, ◌++◌, append_assoc}
 use Prim.Native.Nat.{ℕ, zero, suc, ◌+◌, ◌≤◌}
 use native.Mathlib.Numerals.{add-one}
 use native.Mathlib.Omega.{arith}
-use mir.Val.{bool_byte}
 use Rattle.ledger.specs.declared.Summary.{Summary}
 use lib.ListN.{length}
 use Rattle.printing.specs.Printing.{decimal}
@@ -19,11 +17,6 @@ use Rattle.statement.specs.Statement.{two_fields, summary_line, month_lines}
 
 pub then-fields : (one : List ℕ) (n : ℕ) (two : List ℕ) (k : ℕ) (rest : List ℕ) → two_fields one n two k ++ rest ≡ one ++ (decimal n ++ (two ++ (decimal k ++ rest)))
 then-fields one n two k rest = simp append_assoc
-
--- (std has no such lemma)
-pub flag : (b : Bool) → bool_byte b ≡ cond b 1 0
-flag true = refl
-flag false = refl
 
 -- ---- the months' lines
 

@@ -5,7 +5,8 @@ use Rattle.printing.specs.Printing.{decimal}
 use Rattle.printing.proofs.Digits.{length-decimal}
 use Rattle.printing.proofs.Placed.{word-last, field-then}
 use Rattle.statement.specs.Statement.{charges_part}
-use Rattle.statement.proofs.Lines.{then-fields, flag}
+use Rattle.months.proofs.Flags.{flag_is}
+use Rattle.statement.proofs.Lines.{then-fields}
 use Rattle.statement.proofs.put_charges.Goals as goal
 
 pub returns : goal.returns
@@ -23,6 +24,6 @@ returns c =
     (field-then (bytes " missing=") (decimal c.from.result) 20 (length-decimal c.from.result (search rules)) c.put_field-7.ensures 1
     (word-last c.put_bytes.ensures))))))) c.requires in (
       rw (then-fields (bytes " kind1=") (kind 0) (bytes " kind2=") (kind 1) _, then-fields (bytes " kind3=") (kind 2) (bytes " kind4=") (kind 3) _, then-fields (bytes " kind5=") (kind 4) (bytes " average=") s.average _)
-          (rw (c.from.ensures ∙ flag s.missing) at w.0),
+          (rw (c.from.ensures ∙ flag_is s.missing) at w.0),
       w.1,
     )
