@@ -1,57 +1,66 @@
-/* The account of a prepay meter head: the C interface of libhead.a (`rt lib` in crates/head).
+/* The account of a prepay meter head: the C interface of libhead.a (`rt lib` in crates/head). C99 or later, C++11 or later.
  *
- * Level 1: an event text to its transcript, and to its month figures; bytes in, bytes out.
- * Level 2: one account, kept by the caller as a `prepay_account` in its own memory, opened, posted to and read.
+ * An account stands in the caller's memory as a prepay_account; the calls work on it in place. Firmware reads an event text by
+ * prepay_read_terms and prepay_read_event and posts it event by event. prepay_transcript and prepay_statement print a whole text.
  *
- * Memory. The library owns none, keeps no pointer after a call returns, and calls nothing but memcpy and memset.
- * Every pointer must point to memory of the stated size and alignment, readable, and writable where it is not const, for the time of the
- * call; the regions of one call must not overlap. A null pointer is allowed nowhere, not even with a count of 0.
+ * Units: amounts in cents, energy in Wh; days from the opening day, 0 to 399; months from the opening month, 0 to 14.
  *
- * Amounts are cents, energy is Wh, days are numbered from the opening day, 0 to 399, months from the opening month, 0 to 14.
- * Sums in a `prepay_account` are read by the calls below, not by the caller: its fields are the library's own.
+ * Memory: every pointer must point to memory of the stated size and alignment, readable, and writable where it is not const, for the time
+ * of the call. The regions of one call must not overlap. A null pointer is allowed nowhere, not even with a count of 0. No struct has
+ * padding. The library has no memory of its own, keeps no pointer after a call, and calls nothing but memcpy and memset. A call that needs a
+ * second account is lent one by the caller (`prepay_account *scratch`, or the account to fill); none does yet.
  *
- * Codes (document 01): 0 accepted; 1 terms outside their limits, or no account; 2 day before the last accepted event's, or past day 399;
- * 3 a sort, amount, Wh, kind or mark day outside its limits, or a month without days; 4 account full (4,096 events); 5 payments full
- * (128); 6 no such payment, or reversed before; 7 usage day not before the event's day; 8 estimate on a day not blank, or read on a metered
- * day; 9 the plan kind's condition fails; 10 a plan while the unpaid plan is above 0; 11 service already as asked; 12 disconnect with the
- * balance at or above the cutoff, connect with it below the connection balance; 13 no warning of one to seven days ago; 14 barred day;
- * 15 text breaks its form, or is longer than 65,536 bytes (texts only); 16 buffer shorter than the row (rows only).
+ * Tasks: there is no global state. Calls on different accounts may run at the same time. Calls on one account must not, except those that
+ * take it as const, among each other. The same holds for a prepay_reader.
+ * A call that is broken off (a reset, a task that is ended) may leave the account half changed: where an account must outlive that, post to
+ * a copy and keep the old one until the call is back.
+ *
+ * Stack, in bytes, the greatest measured on good and on damaged numbers (bench/stack.c), on x86-64, for which alone the kit builds:
+ *   prepay_open 88, prepay_post 1,152, prepay_row 1,216, prepay_readings 64, prepay_summary 368, prepay_read_terms 256,
+ *   prepay_read_event 408; for hosts prepay_transcript 39,128, prepay_statement 42,808.
  */
 #ifndef PREPAY_HEAD_H
 #define PREPAY_HEAD_H
 
-#include <stdbool.h>
 #include <stddef.h>
 #include <stdint.h>
 
-#ifdef __cplusplus
-extern "C" {
-#endif
+/* The version of this interface: another number where a call, a struct or the meaning of an account's numbers is another. An account that
+ * is kept over a change of firmware is kept with this number; its own numbers do not have it. */
+#define PREPAY_VERSION 2
 
-/* ---- level 1: texts */
-
-/* A longer text is refused by code 15. */
-#define PREPAY_TEXT_MOST 65536
-/* What the output buffers must hold: a shorter one is left alone, and the answer is 0. */
+/* Limits. */
+#define PREPAY_DAYS 400
+#define PREPAY_MONTHS 15
+#define PREPAY_CHARGE_KINDS 5
+#define PREPAY_MAX_EVENTS 4096
+#define PREPAY_MAX_PAYMENTS 128
+#define PREPAY_MAX_TEXT 65536
+/* The output buffers of prepay_transcript and prepay_statement. */
 #define PREPAY_TRANSCRIPT_ROOM 655360
 #define PREPAY_STATEMENT_ROOM 8192
 
-/* Puts what `prepay` prints for the text into `out`, from its start; answers how many bytes. The bytes after them stay as they are. */
-size_t prepay_transcript(const uint8_t *text, size_t text_len, uint8_t *out, size_t out_len);
-
-/* The same for what `summary` prints: the figures of months 0 to 14. */
-size_t prepay_statement(const uint8_t *text, size_t text_len, uint8_t *out, size_t out_len);
-
-/* ---- level 2: one account */
-
-/* The opening terms. */
-typedef struct {
-    uint32_t year, month, day; /* the opening date */
-    uint32_t price;            /* hundredths of a cent per kWh */
-    uint32_t connect;          /* connection balance */
-    uint32_t cutoff;           /* disconnection balance */
-    uint32_t share;            /* per cent of a payment that goes to a deferred payment plan */
-} prepay_terms;
+/* Codes. Where several of 1 to 14 apply to an account's event, the lowest is given. */
+enum {
+    PREPAY_OK = 0,
+    PREPAY_NO_ACCOUNT = 1,       /* terms outside their limits, or no account */
+    PREPAY_BAD_DAY = 2,          /* before the last accepted event's day, or past day 399 */
+    PREPAY_BAD_FIELD = 3,        /* sort, amount, Wh, kind or mark days outside their limits; a month without days */
+    PREPAY_EVENTS_FULL = 4,      /* 4,096 events accepted */
+    PREPAY_PAYMENTS_FULL = 5,    /* 128 payments accepted */
+    PREPAY_BAD_PAYMENT = 6,      /* no payment of that number, or reversed already */
+    PREPAY_USAGE_NOT_PAST = 7,   /* usage day not before the event's day */
+    PREPAY_USAGE_NOT_BLANK = 8,  /* estimate on a day that is not blank, read on a metered day */
+    PREPAY_PLAN_NOT_ALLOWED = 9, /* the plan kind's condition fails */
+    PREPAY_PLAN_UNPAID = 10,     /* a plan while the unpaid plan is above 0 */
+    PREPAY_SERVICE_AS_ASKED = 11, /* disconnect while off, connect while on */
+    PREPAY_BAD_BALANCE = 12,     /* disconnect at or above the cutoff, connect below the connection balance */
+    PREPAY_NO_WARNING = 13,      /* no warning one to seven days old */
+    PREPAY_DAY_BARRED = 14,
+    PREPAY_BAD_TEXT = 15,        /* text malformed, or longer than 65,536 bytes */
+    PREPAY_SHORT_BUFFER = 16,    /* shorter than the row */
+    PREPAY_END = 255             /* prepay_read_event: the text has no further event */
+};
 
 /* The sorts of events. */
 enum {
@@ -68,105 +77,168 @@ enum {
     PREPAY_CONNECT = 11
 };
 
-/* An event. Only the fields that its sort names are judged; the others may hold anything. */
+/* The kinds of charges, of marks and of plans. */
+enum {
+    PREPAY_CHARGE_DELIVERY = 1, /* delivery utility charge */
+    PREPAY_CHARGE_TAX = 2,
+    PREPAY_CHARGE_RECONNECTION = 3,
+    PREPAY_CHARGE_RETURNED_PAYMENT = 4,
+    PREPAY_CHARGE_OTHER = 5,
+    PREPAY_MARK_WEATHER = 1,      /* extreme weather emergency */
+    PREPAY_MARK_PAYMENT_DOWN = 2, /* payment means down */
+    PREPAY_MARK_PLEDGE = 3,       /* confirmed assistance pledge */
+    PREPAY_PLAN_KIND_REQUIRED = 1,
+    PREPAY_PLAN_KIND_OFFERED = 2
+};
+
+/* The opening terms. */
+typedef struct {
+    uint32_t year, month, day; /* the opening date, 2000-01-01 to 2099-12-31 */
+    uint32_t price;            /* 1 to 99,999 hundredths of a cent per kWh */
+    uint32_t connect;          /* connection balance, 0 to 7,500 */
+    uint32_t cutoff;           /* disconnection balance, 0 to 1,000 and at most connect */
+    uint32_t share;            /* per cent of a payment that goes to a deferred payment plan, 0 to 50 */
+} prepay_terms;
+
+/* An event. Only the fields that its sort names are looked at. */
 typedef struct {
     uint32_t sort;
     uint32_t day;
-    uint32_t amount;   /* pay, credit, charge */
-    uint32_t number;   /* reverse: the payment's number, which its pay was answered */
-    uint32_t kind;     /* charge 1 to 5, mark 1 to 3, plan 1 or 2 */
+    uint32_t amount;   /* pay, credit, charge: 1 to 10,000,000 */
+    uint32_t number;   /* reverse: the payment's number, the value that its pay was answered */
+    uint32_t kind;     /* charge, mark, plan */
     uint32_t usage;    /* estimate, read: the usage day */
-    uint32_t wh;       /* estimate, read */
+    uint32_t wh;       /* estimate, read: 0 to 9,999,999 */
     uint32_t from, to; /* mark: its first and last day */
 } prepay_event;
 
-/* What an event is answered: the code, and where it is 0 the payment's number, the usage day's cost or the plan's sum; else 0. */
-typedef struct {
-    uint8_t code;
-    uint64_t value;
-} prepay_answer;
-
-/* One account, as numbers alone. Filled by prepay_open and changed by prepay_post and prepay_row only.
- * Other numbers never make a call read or write elsewhere, wrap or run on. Every event gets 1 and leaves them as they are where a day's
- * state is above 2, a blank day has Wh or cost, `on` or a `reversed` is above 1, `spare` is not 0, the terms are outside their limits,
- * `count` is above 128, or credit, debit, plan or standing is above 2^60; any others are taken for an account. Readings are read off the
- * totals in any case (balance is 0 where credit or debit is above 2^60, settled where any of the four is). Where every event gets 1, a
- * month's figures are 0, with code 1. */
+/* One account: 8,328 bytes, aligned to 8. Its numbers are the library's own; a copy of the bytes is a copy of the account.
+ * Any numbers are read as an account: whatever they are, no call reads or writes elsewhere, wraps a sum or runs without end. They are no
+ * account, and every event and every month gets 1, where the terms are outside their limits (as in memory of zeros), `count` is above 128,
+ * or one of credit, debit, plan and standing is above 2^60; a charge that nothing else refuses gets 1 where the sum that it adds to is above
+ * 2^60. No account that these calls alone have written is such. */
 typedef struct {
     uint64_t credit, debit, plan, standing;
-    uint32_t count, events, last, on;
+    uint32_t count, events, last, on; /* on: 1 is on, any other number off */
 } prepay_totals;
 
 typedef struct {
-    uint32_t state, wh, cost;
+    uint32_t state, wh, cost; /* state: 1 estimated, 2 metered, any other number blank */
 } prepay_day;
 
 typedef struct {
-    uint32_t day, amount, part, reversed;
+    uint32_t day, amount, part, reversed; /* reversed: 1 is yes, any other number no */
 } prepay_payment;
 
 typedef struct {
     prepay_totals totals;
+    uint64_t charges[PREPAY_MONTHS * PREPAY_CHARGE_KINDS];
     prepay_terms terms;
-    prepay_day days[400];
-    uint8_t marks[400];
-    uint8_t warned[400];
-    prepay_payment payments[128];
+    prepay_day days[PREPAY_DAYS];
+    prepay_payment payments[PREPAY_MAX_PAYMENTS];
     uint32_t spare; /* 0 */
-    uint64_t charges[75];
+    uint8_t marks[PREPAY_DAYS];
+    uint8_t warned[PREPAY_DAYS];
 } prepay_account;
 
-/* Its size in bytes; its alignment is 8. */
 #define PREPAY_ACCOUNT_SIZE 8328
+#define PREPAY_ACCOUNT_ALIGN 8
 
-/* The readings of an account. */
+/* What an event is answered: its code; and, where that is 0, the payment's number (pay), the usage day's cost (estimate, read) or the plan's
+ * sum (plan). The value is 0 in every other case. */
 typedef struct {
-    int64_t balance;    /* B */
-    int64_t settled;    /* the settled amount */
-    uint64_t plan;      /* the unpaid plan R */
-    uint64_t estimates; /* cost of the standing estimates */
+    uint64_t code, value;
+} prepay_answer;
+
+/* The readings of an account. They have no code: of memory that is no account they are what its numbers say. */
+typedef struct {
+    int64_t balance;    /* 0 where credit or debit is above 2^60 */
+    int64_t settled;    /* the settled amount; 0 where a total is above 2^60 */
+    uint64_t plan;      /* the unpaid plan */
+    uint64_t estimates; /* the cost of the standing estimates */
     uint64_t service;   /* 1 on, 0 off */
 } prepay_reading;
 
+/* The figures of a month. The code is 1 for no account, then 3 for a month that holds none of days 0 to 399, then 1 where the month's
+ * charges of kind 1 or 2 are above 2^40, as no account's are. Where it is not 0, all else is 0. */
 typedef struct {
-    uint32_t count;
-    uint64_t sum;
-} prepay_counted;
+    uint64_t code;
+    uint64_t kept_count, kept_sum;         /* payments of the month, not reversed */
+    uint64_t reversed_count, reversed_sum; /* and reversed */
+    uint64_t metered_wh, metered_cost;
+    uint64_t estimated_wh, estimated_cost;
+    uint64_t charges[5]; /* kinds 1 to 5 */
+    uint64_t average;    /* price, hundredths of a cent per kWh */
+    uint64_t missing;    /* 1 where there is no energy, so no average; else 0 */
+} prepay_figures;
 
+/* How far a text has been read: the byte at which the next event starts, and 0; or PREPAY_END or 15, which ended the reading. Any other
+ * code is read as 15. */
 typedef struct {
-    uint64_t wh;
-    uint64_t cost;
-} prepay_used;
+    uint32_t place, code;
+} prepay_reader;
 
-/* A month's figures. The code is 1 where every event gets 1, then 3 for a month that holds none of the account's days, then 1 where a
- * charge sum of kind 1 or 2 is past 2^40, which no account has; every figure is 0 then. */
-typedef struct {
-    uint8_t code;
-    prepay_counted kept;     /* payments of the month's days, not reversed */
-    prepay_counted reversed; /* and reversed */
-    prepay_used metered;
-    prepay_used estimated;
-    uint64_t charges[5];     /* kinds 1 to 5 */
-    uint64_t average;        /* hundredths of a cent per kWh */
-    bool missing;            /* no energy, so no average */
-} prepay_summary_figures;
+#if defined(__cplusplus) && __cplusplus >= 201103L
+#define PREPAY_HOLDS(claim) static_assert(claim, #claim)
+#define PREPAY_ALIGN_OF alignof
+#elif defined(__STDC_VERSION__) && __STDC_VERSION__ >= 201112L
+#define PREPAY_HOLDS(claim) _Static_assert(claim, #claim)
+#define PREPAY_ALIGN_OF _Alignof
+#endif
+#ifdef PREPAY_HOLDS
+PREPAY_HOLDS(sizeof(prepay_account) == PREPAY_ACCOUNT_SIZE);
+PREPAY_HOLDS(PREPAY_ALIGN_OF(prepay_account) == PREPAY_ACCOUNT_ALIGN);
+PREPAY_HOLDS(sizeof(prepay_terms) == 7 * sizeof(uint32_t));
+PREPAY_HOLDS(sizeof(prepay_event) == 9 * sizeof(uint32_t));
+PREPAY_HOLDS(sizeof(prepay_reader) == 2 * sizeof(uint32_t));
+#undef PREPAY_HOLDS
+#undef PREPAY_ALIGN_OF
+#endif
 
-/* Fills `account` with a fresh account, whatever stood there. Answers 0, or 1 where the terms are outside their limits: then what it
- * filled is no account, and every event gets 1. */
-uint8_t prepay_open(prepay_account *account, prepay_terms terms);
+#ifdef __cplusplus
+extern "C" {
+#endif
 
-/* Posts one event. A refusal leaves the account as it is. */
-prepay_answer prepay_post(prepay_account *account, prepay_event event);
+/* The version that the library was built with: where it is not PREPAY_VERSION, header and library are not of the same firmware. */
+uint32_t prepay_version(void);
+
+/* ---- one account */
+
+/* Fills `account` with a fresh account, whatever stood there, and answers 0; or answers 1 and leaves every byte as it was where the terms
+ * are outside their limits. */
+uint8_t prepay_open(prepay_account *account, const prepay_terms *terms);
+
+/* Posts one event. A refused event changes no byte of the account. */
+prepay_answer prepay_post(prepay_account *account, const prepay_event *event);
 
 /* Posts `count` events in order and puts each one's code into its byte of `codes`; a refused event does not stop the row. Answers 0; or
  * 16, nothing posted and nothing written, where `codes` has fewer bytes than the row has events. Bytes past the row stay as they are. */
 uint8_t prepay_row(prepay_account *account, const prepay_event *row, size_t count, uint8_t *codes, size_t codes_len);
 
-/* Reads the account. */
 prepay_reading prepay_readings(const prepay_account *account);
 
 /* The figures of month `month`, 0 being the opening month. */
-prepay_summary_figures prepay_summary(const prepay_account *account, uint32_t month);
+prepay_figures prepay_summary(const prepay_account *account, uint32_t month);
+
+/* ---- an event text, event by event */
+
+/* Reads the terms of a text into `terms` and starts `reader` at its first event; answers 0. Answers 15 where the terms are malformed or the
+ * text is longer than 65,536 bytes: the reader then holds 15, `terms` stays as it was. Their limits are judged by prepay_open. */
+uint8_t prepay_read_terms(const uint8_t *text, size_t text_len, prepay_reader *reader, prepay_terms *terms);
+
+/* Reads the next event of the same text into `event`, 0 in the fields that its sort does not name; answers 0. Answers PREPAY_END at the end
+ * of the text, 15 where the event is malformed or the text longer than 65,536 bytes: `event` stays as it was, and every further call
+ * answers the same. */
+uint8_t prepay_read_event(const uint8_t *text, size_t text_len, prepay_reader *reader, prepay_event *event);
+
+/* ---- an event text, printed whole */
+
+/* Puts what `prepay` prints for the text into `out`, from its start, and answers how many bytes; the bytes after them stay as they are.
+ * Where `out` has fewer than PREPAY_TRANSCRIPT_ROOM bytes it stays as it is, and the answer is 0. */
+size_t prepay_transcript(const uint8_t *text, size_t text_len, uint8_t *out, size_t out_len);
+
+/* The same for what `summary` prints, the figures of months 0 to 14, and PREPAY_STATEMENT_ROOM. */
+size_t prepay_statement(const uint8_t *text, size_t text_len, uint8_t *out, size_t out_len);
 
 #ifdef __cplusplus
 }

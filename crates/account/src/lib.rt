@@ -7,11 +7,14 @@ ghost use Rattle.std.specs.Prelude.{◌≡◌};
 ghost use Rattle.account.specs.Step.{IsOpened, step_of, stepped_of};
 ghost use Rattle.account.specs.Record.{fresh};
 
+pub use as_account::AsAccount;
 use calendar::DAY_COUNT;
 use ledger::{Event, MAX_PAYMENTS, Refusal};
 use marks::DayBytes;
 use moves::{CHARGE_PLACES, Cells, Charges, Day, Payment, Totals};
 use terms::Terms;
+
+mod as_account;
 
 pub type UsageDays = [Day; DAY_COUNT as usize];
 

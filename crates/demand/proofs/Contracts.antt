@@ -31,13 +31,13 @@ use Rattle.account.specs.contracts.open as open-call
 use Rattle.posting.specs.Posting.{Posts, PostsRow}
 use Rattle.posting.specs.contracts.post as post
 use Rattle.posting.specs.contracts.post_row as row-call
-use Rattle.readings.specs.Readings.{IsBalance, IsPlan, IsService, IsSettled, IsEstimates}
+use Rattle.readings.specs.Readings.{IsBalance, IsPlan, IsService, IsSettled, IsEstimates, Readings, ShowsReadings}
 use Rattle.readings.specs.contracts.balance as balance
 use Rattle.readings.specs.contracts.plan as plan
 use Rattle.readings.specs.contracts.service as service
 use Rattle.readings.specs.contracts.settled as settled
 use Rattle.readings.specs.contracts.estimates as estimates
-use Rattle.demand.specs.Calls.{Readings, Seen, ShowsReadings, Called, RunsFrom}
+use Rattle.demand.specs.Calls.{Seen, Called, RunsFrom}
 use Rattle.demand.specs.Demand3.{shows, CallsHold}
 use Rattle.demand.proofs.Lists.{demand-3}
 

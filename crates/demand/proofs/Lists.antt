@@ -32,9 +32,9 @@ use Rattle.refinement.specs.Agree.{Represents}
 use Rattle.refinement.proofs.Lists.{represents-fresh, represents-after, opened-valid}
 use Rattle.posting.specs.Posting.{answer_of, row_of}
 use Rattle.posting.proofs.Ledgers.{answer_back, row_back, row-account, posts, posts-row}
-use Rattle.readings.specs.Readings.{balance_of, settled_of}
+use Rattle.readings.specs.Readings.{balance_of, settled_of, Readings, ShowsReadings}
 use Rattle.readings.proofs.After.{balance-reading, settled-reading, is_balance, is_plan, is_service, is_settled, is_estimates}
-use Rattle.demand.specs.Calls.{Readings, Seen, ShowsReadings, Called, RunsFrom}
+use Rattle.demand.specs.Calls.{Seen, Called, RunsFrom}
 use Rattle.demand.specs.Demand3.{shows, codes_in, CallHolds, CallsHold, Demand3}
 
 -- ---- one call, from an account that stands for a ledger

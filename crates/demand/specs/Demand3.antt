@@ -9,7 +9,8 @@ use Rattle.ledger.specs.Rules.{Ledger, day_refused, is_full, MayCut}
 use Rattle.ledger.specs.Sums as sums
 use Rattle.ledger.specs.Ledger.{opening, ledger_after}
 use Rattle.ledger.specs.Calls.{Call, Back, answered, written, fed, ledger_called, ledger_back}
-use Rattle.demand.specs.Calls.{Readings, Seen, Runs}
+use Rattle.readings.specs.Readings.{Readings}
+use Rattle.demand.specs.Calls.{Seen, Runs}
 
 -- the readings off the ledger
 abbrev pub shows : Terms → Ledger → Readings

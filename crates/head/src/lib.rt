@@ -1,81 +1,141 @@
-// The C interface of the account software (include/head.h). Level 1: a text to its transcript, a text to its month figures. Level 2: the
-// account as an image in the caller's memory, opened, posted to and read. Codes are numbers there.
-// It uses the terms, the ledger's event and answers, the account, the image, the posting calls, the transcript and the statement. Its promises cite specs/Interface.antt.
+// The C interface of the account software (include/head.h): one account in the caller's memory, opened, posted to and read in place; an event
+// text, read event by event, or printed whole. Codes are numbers there, and no struct has a byte that is in no field.
+// It uses the terms, the ledger's event and answers, the account's numbers, the reading calls and the month's figures. Its promises cite
+// specs/Interface.antt, and those of the calls that it hands on.
 #![tactic(auto)]
 
 ghost use Rattle.std.specs.Prelude.{◌≡◌};
-ghost use Rattle.posting.specs.Posting.{row_of};
-ghost use Rattle.transcript.specs.Transcript.{WholeTranscript};
-ghost use Rattle.statement.specs.Statement.{WholeStatement};
-ghost use Rattle.image.specs.Image.{account_of, opened_of, posted_of, readings_of, summary_in};
-ghost use Rattle.head.specs.Interface.{OpensImage, PostsImage, PostsRowImage};
+ghost use Rattle.ledger.specs.Refusals.{answer_record, summary_record};
+ghost use Rattle.numbers.specs.Numbers.{OpensIn, PostsIn, PostsRowIn};
+ghost use Rattle.head.specs.Interface.{answer_in, figure_numbers, ReadsIn, SummaryIn};
 
-use account::Account;
-use image::{Image, Reading};
-use ledger::{Answer, Event, Summary, code};
+use account::AsAccount;
+use ledger::{Answer, Event, Figures, KindSums, Refusal, Summary, code};
+use numbers::Numbers;
 use terms::Terms;
 
-// The transcript of a text.
-#[unsafe(no_mangle)]
-pub extern "C" fn prepay_transcript(text: &[u8], out: &mut [u8]) -> usize
-    ensures { WholeTranscript text.now out.old out.new result }
-{
-    transcript::transcript(text, out)
+mod texts;
+
+// What an event is answered.
+#[repr(C)]
+#[derive(Clone, Copy, Debug, PartialEq, Eq)]
+pub struct AnswerNumbers {
+    pub code: u64,
+    pub value: u64,
 }
 
-// The month figures of a text.
-#[unsafe(no_mangle)]
-pub extern "C" fn prepay_statement(text: &[u8], out: &mut [u8]) -> usize
-    ensures { WholeStatement text.now out.old out.new result }
-{
-    statement::statement(text, out)
+impl From<Result<u64, Refusal>> for AnswerNumbers {
+    ghost from_gives = { λ r n. answer_in n ≡ answer_record r };
+
+    fn from(answer: Result<u64, Refusal>) -> AnswerNumbers {
+        AnswerNumbers {
+            code: u64::from(code(answer)),
+            value: answer.unwrap_or(0),
+        }
+    }
 }
 
-// A fresh account. Where the terms are outside their limits the answer is 1 and every event gets 1.
+// The five readings, in cents; service is 0 or 1.
+#[repr(C)]
+#[derive(Clone, Copy, Debug, PartialEq, Eq)]
+pub struct ReadingNumbers {
+    pub balance: i64,
+    pub settled: i64,
+    pub plan: u64,
+    pub estimates: u64,
+    pub service: u64,
+}
+
+// A month's figures; missing is 0 or 1.
+#[repr(C)]
+#[derive(Clone, Copy, Debug, PartialEq, Eq)]
+pub struct FigureNumbers {
+    pub code: u64,
+    pub kept_count: u64,
+    pub kept_sum: u64,
+    pub reversed_count: u64,
+    pub reversed_sum: u64,
+    pub metered_wh: u64,
+    pub metered_cost: u64,
+    pub estimated_wh: u64,
+    pub estimated_cost: u64,
+    pub charges: KindSums,
+    pub average: u64,
+    pub missing: u64,
+}
+
+impl From<Summary> for FigureNumbers {
+    ghost from_gives = { λ s n. n ≡ figure_numbers s };
+
+    fn from(month: Summary) -> FigureNumbers {
+        FigureNumbers {
+            code: u64::from(month.code),
+            kept_count: u64::from(month.kept.count),
+            kept_sum: month.kept.sum,
+            reversed_count: u64::from(month.reversed.count),
+            reversed_sum: month.reversed.sum,
+            metered_wh: month.metered.wh,
+            metered_cost: month.metered.cost,
+            estimated_wh: month.estimated.wh,
+            estimated_cost: month.estimated.cost,
+            charges: month.charges,
+            average: month.average,
+            missing: u64::from(month.missing),
+        }
+    }
+}
+
+// The version of this interface: another number where a call, a struct or the meaning of an account's numbers is another.
 #[unsafe(no_mangle)]
-pub extern "C" fn prepay_open(account: &mut Image, t: Terms) -> u8
-    ensures { OpensImage (opened_of t) account.new result }
+pub extern "C" fn prepay_version() -> u32
+    ensures { result ≡ 2 }
 {
-    let (opened, answer) = image::open(t);
-    *account = opened;
-    code(answer)
+    2
+}
+
+// A fresh account. Where the terms are outside their limits the answer is 1, and nothing is written.
+#[unsafe(no_mangle)]
+pub extern "C" fn prepay_open(account: &mut Numbers, terms: &Terms) -> u8
+    ensures { OpensIn terms.now account.old account.new result }
+{
+    code(account.open(*terms))
 }
 
 // One event.
 #[unsafe(no_mangle)]
-pub extern "C" fn prepay_post(account: &mut Image, e: Event) -> Answer
-    ensures { PostsImage (posted_of account.old e) account.new result }
+pub extern "C" fn prepay_post(account: &mut Numbers, event: &Event) -> AnswerNumbers
+    ensures { PostsIn account.old event.now account.new (answer_in result) }
 {
-    let before = *account;
-    let posted = image::post(before, e);
-    *account = posted.account;
-    Answer::from(posted.answer)
+    AnswerNumbers::from(account.post(*event))
 }
 
 // A row of events in order, one code byte each; 16 where the buffer is shorter than the row.
 #[unsafe(no_mangle)]
-pub extern "C" fn prepay_row(account: &mut Image, row: &[Event], codes: &mut [u8]) -> u8
-    ensures { PostsRowImage account.old (row_of (account_of account.old) row.now codes.old) account.new codes.new result }
+pub extern "C" fn prepay_row(account: &mut Numbers, row: &[Event], codes: &mut [u8]) -> u8
+    ensures { PostsRowIn account.old row.now codes.old account.new codes.new result }
 {
-    let before = *account;
-    let mut a = Account::from(before);
-    let answer = posting::post_row(&mut a, row, codes);
-    *account = image::image_after(before, a);
-    code(answer)
+    code(account.post_row(row, codes))
 }
 
 // The readings.
 #[unsafe(no_mangle)]
-pub extern "C" fn prepay_readings(account: &Image) -> Reading
-    ensures { result ≡ readings_of account.now }
+pub extern "C" fn prepay_readings(account: &Numbers) -> ReadingNumbers
+    ensures { ReadsIn account.now result }
 {
-    image::readings(account)
+    let totals = account.totals();
+    ReadingNumbers {
+        balance: readings::balance(totals),
+        settled: readings::settled(totals),
+        plan: readings::plan(totals),
+        estimates: readings::estimates(totals),
+        service: u64::from(readings::service(totals)),
+    }
 }
 
 // A month's figures.
 #[unsafe(no_mangle)]
-pub extern "C" fn prepay_summary(account: &Image, month: u32) -> Summary
-    ensures { result ≡ summary_in account.now month }
+pub extern "C" fn prepay_summary(account: &Numbers, month: u32) -> FigureNumbers
+    ensures { SummaryIn account.now month result }
 {
-    Summary::from(image::summary(*account, month))
+    FigureNumbers::from(Summary::from(months::summary(account, month)))
 }

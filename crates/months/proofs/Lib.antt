@@ -1,5 +1,4 @@
 pub mod Agrees
-pub mod Flags
 pub mod Numbers
 pub mod Span
 pub mod Sums

@@ -42,3 +42,21 @@ IsSettled s r = IsReading s (settled_of s) (λ (t : Terms) (l : Ledger). sums.se
 -- what `readings::estimates` promises
 abbrev pub IsEstimates : Totals → ℕ → Type 0
 IsEstimates s r = IsReading s s.standing (λ (t : Terms) (l : Ledger). sums.standing_cost t l.list) r
+
+-- ---- all five
+
+-- The readings of an account.
+pub record Readings : Type 0 where
+  pub balance : ℤ
+  pub plan : ℕ
+  pub on : Bool
+  pub settled : ℤ
+  pub standing : ℕ
+
+-- r is what the reading calls may answer of an account with these totals, by their promises
+pub record ShowsReadings (s : Totals) (r : Readings) : Type 0 where
+  pub balance : IsBalance s r.balance
+  pub plan : IsPlan s r.plan
+  pub on : IsService s r.on
+  pub settled : IsSettled s r.settled
+  pub standing : IsEstimates s r.standing

@@ -5,7 +5,7 @@ use Rattle.printing.specs.Printing.{decimal}
 use Rattle.printing.proofs.Digits.{length-decimal}
 use Rattle.printing.proofs.Placed.{word-last, field-then}
 use Rattle.statement.specs.Statement.{charges_part}
-use Rattle.months.proofs.Flags.{flag_is}
+use Rattle.ledger.proofs.Cases.{flag_is}
 use Rattle.statement.proofs.Lines.{then-fields}
 use Rattle.statement.proofs.put_charges.Goals as goal
 

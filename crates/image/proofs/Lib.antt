@@ -1,4 +1,0 @@
-pub mod Lists
-pub mod Conversions
-pub mod Refused
-pub mod Posts
