@@ -150,7 +150,7 @@ impl From<TotalsNumbers> for Totals {
 impl From<Totals> for TotalsNumbers {
     ghost from_gives = { λ s n. n ≡ totals_numbers s };
 
-    #[tactic(auto, using(crate::proofs::Conversions::flag_is), unfolding(crate::specs::Numbers::totals_numbers))]
+    #[tactic(auto, using(ledger::proofs::Cases::flag_is), unfolding(crate::specs::Numbers::totals_numbers))]
     fn from(totals: Totals) -> TotalsNumbers {
         TotalsNumbers {
             credit: totals.credit,
