@@ -1,8 +1,8 @@
-/* The account of a prepay meter head, from C: document 01's worked example by each call of include/head.h.
+/* The account of a prepay meter head from C, by each call of include/head.h.
  *
- * Level 2 first, as a meter head uses it: one account in the caller's own memory, events posted singly and in rows, readings, a month's
- * figures. Then level 1, event text in and printed lines out. examples/run.sh builds it, runs it, and holds what it prints to example.out
- * and to what the program `prepay` prints for the same text.
+ * `example` posts document 01's worked example singly and in rows and prints a month's figures; run.sh holds it to example.out.
+ * `example FILE` reads and posts the event text of a file event by event, as firmware does, and prints what the programs `prepay` and
+ * `summary` print for it; then the same by the calls that print a whole text. run.sh holds it to the programs.
  */
 #include <inttypes.h>
 #include <stdio.h>
@@ -10,7 +10,12 @@
 
 #include "head.h"
 
-/* The head's one account. It lies in the caller's memory; the library never keeps its address. */
+/* What this program was written for, and its memory laid out for. */
+_Static_assert(PREPAY_VERSION == 2, "another head.h");
+_Static_assert(sizeof(prepay_account) == PREPAY_ACCOUNT_SIZE && PREPAY_ACCOUNT_SIZE == 8328, "8,328 bytes are kept for the account");
+_Static_assert(_Alignof(prepay_account) == PREPAY_ACCOUNT_ALIGN && PREPAY_ACCOUNT_ALIGN == 8, "they are aligned to 8");
+
+/* The account, in the caller's memory. */
 static prepay_account account;
 
 /* The opening terms. Day 0 is Monday, 2024-01-01. */
@@ -18,38 +23,20 @@ static const prepay_terms terms = {
     .year = 2024, .month = 1, .day = 1, .price = 1250, .connect = 5000, .cutoff = 1000, .share = 50,
 };
 
-/* The events. A sort's own fields are named; C zeroes the others, which the library does not look at. */
+/* The events, each with the fields that its sort names. */
 static const prepay_event events[] = {
     {.sort = PREPAY_PAY, .day = 0, .amount = 6000},
     {.sort = PREPAY_CONNECT, .day = 0},
     {.sort = PREPAY_ESTIMATE, .day = 2, .usage = 1, .wh = 30000},
     {.sort = PREPAY_READ, .day = 3, .usage = 1, .wh = 32000},
     {.sort = PREPAY_WARN, .day = 3},
-    {.sort = PREPAY_CHARGE, .day = 3, .kind = 1, .amount = 4700},
-    {.sort = PREPAY_DISCONNECT, .day = 3}, /* 13: warned today only */
+    {.sort = PREPAY_CHARGE, .day = 3, .kind = PREPAY_CHARGE_DELIVERY, .amount = 4700},
+    {.sort = PREPAY_DISCONNECT, .day = 3}, /* PREPAY_NO_WARNING: warned today only */
     {.sort = PREPAY_DISCONNECT, .day = 4},
     {.sort = PREPAY_PAY, .day = 5, .amount = 4000},
-    {.sort = PREPAY_CONNECT, .day = 5}, /* 12: below the connection balance */
+    {.sort = PREPAY_CONNECT, .day = 5}, /* PREPAY_BAD_BALANCE: below the connection balance */
 };
 enum { EVENTS = sizeof events / sizeof events[0] };
-
-/* The same as an event text. */
-static const char text[] =
-    "open=2024-01-01\nprice=1250\nconnect=5000\ncutoff=1000\nshare=50\n"
-    "day=0\ndo=pay\namount=6000\n"
-    "day=0\ndo=connect\n"
-    "day=2\ndo=estimate\nusage=1\nwh=30000\n"
-    "day=3\ndo=read\nusage=1\nwh=32000\n"
-    "day=3\ndo=warn\n"
-    "day=3\ndo=charge\nkind=1\namount=4700\n"
-    "day=3\ndo=disconnect\n"
-    "day=4\ndo=disconnect\n"
-    "day=5\ndo=pay\namount=4000\n"
-    "day=5\ndo=connect\n";
-
-/* Room for the answers of level 1. */
-static uint8_t transcript[PREPAY_TRANSCRIPT_ROOM];
-static uint8_t statement[PREPAY_STATEMENT_ROOM];
 
 static int wrong;
 
@@ -60,56 +47,55 @@ static void expect(int held, const char *what) {
     }
 }
 
-static int same_account(const prepay_account *a, const prepay_account *b) {
-    return memcmp(a, b, sizeof *a) == 0;
+static int same_account(const prepay_account *a, const prepay_account *b) { return memcmp(a, b, sizeof *a) == 0; }
+
+static void print_answer(unsigned n, prepay_answer answer) {
+    prepay_reading now = prepay_readings(&account);
+    printf("n=%u code=%" PRIu64 " value=%" PRIu64 " balance=%" PRId64 " plan=%" PRIu64 "\n", n, answer.code, answer.value, now.balance,
+           now.plan);
 }
 
-static int same_readings(prepay_reading a, prepay_reading b) {
-    return a.balance == b.balance && a.settled == b.settled && a.plan == b.plan && a.estimates == b.estimates && a.service == b.service;
+static void print_last(void) {
+    prepay_reading now = prepay_readings(&account);
+    printf("settled=%" PRId64 " estimates=%" PRIu64 "\n", now.settled, now.estimates);
 }
 
-/* (a), (b): open, post one by one, read after each. */
+static void print_refused(uint8_t code) { printf("n=0 code=%u value=0 balance=0 plan=0\n", (unsigned)code); }
+
+/* Opens, posts one by one, and reads after each. */
 static void single_posts(uint8_t *codes) {
-    puts("# single posts");
-    memset(&account, 0, sizeof account);
-    expect(prepay_open(&account, terms) == 0, "the terms are within their limits");
-    for (size_t i = 0; i < EVENTS; i++) {
-        prepay_answer answer = prepay_post(&account, events[i]);
-        prepay_reading now = prepay_readings(&account);
-        printf("n=%zu code=%u value=%" PRIu64 " balance=%" PRId64 " plan=%" PRIu64 "\n", i + 1, (unsigned)answer.code, answer.value,
-               now.balance, now.plan);
-        codes[i] = answer.code;
+    expect(prepay_open(&account, &terms) == PREPAY_OK, "the terms are within their limits");
+    for (unsigned i = 0; i < EVENTS; i++) {
+        prepay_account before = account;
+        prepay_answer answer = prepay_post(&account, &events[i]);
+        print_answer(i + 1, answer);
+        expect(answer.code == PREPAY_OK || same_account(&account, &before), "a refused event changes no byte");
+        codes[i] = (uint8_t)answer.code;
     }
-    prepay_reading last = prepay_readings(&account);
-    printf("settled=%" PRId64 " estimates=%" PRIu64 "\n", last.settled, last.estimates);
+    print_last();
 }
 
-/* (c): the same events as rows. `singly` and `codes` are what the single posts left. */
+/* The same events in rows; `singly` and `codes` are what the single posts left. */
 static void rows(const prepay_account *singly, const uint8_t *codes) {
     static const size_t lengths[] = {1, 0, 2, 3, 4};
-    static prepay_account before;
     uint8_t bytes[EVENTS + 6];
     size_t at = 0;
 
-    puts("# rows");
-    memset(&account, 0, sizeof account);
-    expect(prepay_open(&account, terms) == 0, "the terms are within their limits");
+    expect(prepay_open(&account, &terms) == PREPAY_OK, "the terms are within their limits");
     for (size_t r = 0; r < sizeof lengths / sizeof lengths[0]; r++) {
         size_t count = lengths[r];
-        memcpy(&before, &account, sizeof before);
+        prepay_account before = account;
 
-        /* A buffer one byte too short: 16, nothing posted, nothing written. An empty row fits any buffer. */
-        if (count > 0) {
-            memset(bytes, 0xEE, sizeof bytes);
-            expect(prepay_row(&account, events + at, count, bytes, count - 1) == 16, "a short buffer is 16");
-            expect(same_account(&account, &before), "a short buffer posts nothing");
-            for (size_t i = 0; i < sizeof bytes; i++)
-                expect(bytes[i] == 0xEE, "a short buffer is not written");
-        }
+        /* A buffer one byte too short: nothing posted, nothing written. */
+        memset(bytes, 0xEE, sizeof bytes);
+        if (count > 0)
+            expect(prepay_row(&account, events + at, count, bytes, count - 1) == PREPAY_SHORT_BUFFER, "a short buffer is 16");
+        expect(same_account(&account, &before), "a short buffer posts nothing");
+        for (size_t i = 0; i < sizeof bytes; i++)
+            expect(bytes[i] == 0xEE, "a short buffer is not written");
 
         /* A buffer longer than the row: the bytes past the row stay. */
-        memset(bytes, 0xEE, sizeof bytes);
-        expect(prepay_row(&account, events + at, count, bytes, sizeof bytes) == 0, "a row that fits is 0");
+        expect(prepay_row(&account, events + at, count, bytes, sizeof bytes) == PREPAY_OK, "a row that fits is 0");
         printf("row of %zu: codes", count);
         for (size_t i = 0; i < count; i++)
             printf(" %u", (unsigned)bytes[i]);
@@ -117,80 +103,91 @@ static void rows(const prepay_account *singly, const uint8_t *codes) {
         expect(memcmp(bytes, codes + at, count) == 0, "a row's codes are those of the single posts");
         for (size_t i = count; i < sizeof bytes; i++)
             expect(bytes[i] == 0xEE, "bytes past the row stay as they are");
-        if (count == 0)
-            expect(same_account(&account, &before), "an empty row changes nothing");
         at += count;
     }
-    expect(at == EVENTS, "the rows have all events");
     expect(same_account(&account, singly), "the account after the rows is that after the single posts");
-    expect(same_readings(prepay_readings(&account), prepay_readings(singly)), "so are its readings");
 
-    /* All at once, into a buffer of just that length. */
-    memset(&account, 0, sizeof account);
-    expect(prepay_open(&account, terms) == 0, "the terms are within their limits");
-    expect(prepay_row(&account, events, EVENTS, bytes, EVENTS) == 0, "one row of all events is 0");
-    expect(memcmp(bytes, codes, EVENTS) == 0, "its codes are those of the single posts");
-    expect(same_account(&account, singly), "its account is that after the single posts");
-    puts(wrong ? "account and readings: SEE ABOVE" : "account and readings: as after the single posts");
+    /* Terms outside their limits make no account: this one stays as it is. */
+    prepay_terms refused = terms;
+    refused.share = 51;
+    expect(prepay_open(&account, &refused) == PREPAY_NO_ACCOUNT && same_account(&account, singly), "refused terms change no byte");
 }
 
-/* (d): a month's figures, in the form that `summary` prints. */
-static int print_month(char *line, size_t room, uint32_t month) {
-    prepay_summary_figures s = prepay_summary(&account, month);
-    return snprintf(line, room,
-                    "m=%" PRIu32 " code=%u kept_count=%" PRIu32 " kept_sum=%" PRIu64 " reversed_count=%" PRIu32 " reversed_sum=%" PRIu64
-                    " metered_wh=%" PRIu64 " metered_cost=%" PRIu64 " estimated_wh=%" PRIu64 " estimated_cost=%" PRIu64 " kind1=%" PRIu64
-                    " kind2=%" PRIu64 " kind3=%" PRIu64 " kind4=%" PRIu64 " kind5=%" PRIu64 " average=%" PRIu64 " missing=%d\n",
-                    month, (unsigned)s.code, s.kept.count, s.kept.sum, s.reversed.count, s.reversed.sum, s.metered.wh, s.metered.cost,
-                    s.estimated.wh, s.estimated.cost, s.charges[0], s.charges[1], s.charges[2], s.charges[3], s.charges[4], s.average,
-                    (int)s.missing);
+/* The figures of a month, as `summary` prints them. */
+static void print_month(uint32_t month) {
+    prepay_figures f = prepay_summary(&account, month);
+    printf("m=%" PRIu32 " code=%" PRIu64 " kept_count=%" PRIu64 " kept_sum=%" PRIu64 " reversed_count=%" PRIu64 " reversed_sum=%" PRIu64
+           " metered_wh=%" PRIu64 " metered_cost=%" PRIu64 " estimated_wh=%" PRIu64 " estimated_cost=%" PRIu64,
+           month, f.code, f.kept_count, f.kept_sum, f.reversed_count, f.reversed_sum, f.metered_wh, f.metered_cost, f.estimated_wh,
+           f.estimated_cost);
+    for (int kind = 1; kind <= PREPAY_CHARGE_KINDS; kind++)
+        printf(" kind%d=%" PRIu64, kind, f.charges[kind - 1]);
+    printf(" average=%" PRIu64 " missing=%" PRIu64 "\n", f.average, f.missing);
 }
 
-static void month_of_opening(void) {
-    char line[512];
-    puts("# month 0");
-    print_month(line, sizeof line, 0);
-    fputs(line, stdout);
-    expect(prepay_summary(&account, 15).code == 3, "month 15 is refused with 3");
+/* Reads and posts a text event by event; prints as `prepay` does. Answers the code of the terms. */
+static uint8_t event_by_event(const uint8_t *text, size_t text_len) {
+    prepay_reader reader;
+    prepay_terms read;
+    prepay_event event;
+    uint8_t code = prepay_read_terms(text, text_len, &reader, &read);
+    if (code == PREPAY_OK)
+        code = prepay_open(&account, &read);
+    if (code != PREPAY_OK) {
+        print_refused(code);
+        return code;
+    }
+    for (unsigned n = 1; (code = prepay_read_event(text, text_len, &reader, &event)) != PREPAY_END; n++) {
+        prepay_answer answer = {code, 0};
+        if (code == PREPAY_OK)
+            answer = prepay_post(&account, &event);
+        print_answer(n, answer);
+        if (code != PREPAY_OK)
+            break;
+    }
+    print_last();
+    return PREPAY_OK;
 }
 
-/* (e): level 1. */
-static void texts(void) {
-    size_t text_len = sizeof text - 1;
-    char lines[15 * 512];
-    size_t at = 0;
-
+static void of_text(const uint8_t *text, size_t text_len) {
+    static uint8_t out[PREPAY_TRANSCRIPT_ROOM];
+    puts("# event by event");
+    uint8_t code = event_by_event(text, text_len);
+    puts("# months");
+    if (code != PREPAY_OK)
+        print_refused(code);
+    for (uint32_t month = 0; code == PREPAY_OK && month < PREPAY_MONTHS; month++)
+        print_month(month);
     puts("# prepay_transcript");
-    memset(transcript, 0xEE, sizeof transcript);
-    expect(prepay_transcript((const uint8_t *)text, text_len, transcript, sizeof transcript - 1) == 0, "a short buffer gets 0");
-    expect(transcript[0] == 0xEE, "and is left alone");
-    size_t n = prepay_transcript((const uint8_t *)text, text_len, transcript, sizeof transcript);
-    fwrite(transcript, 1, n, stdout);
-    expect(n < sizeof transcript && transcript[n] == 0xEE, "the bytes after the answer stay as they are");
-
+    fwrite(out, 1, prepay_transcript(text, text_len, out, PREPAY_TRANSCRIPT_ROOM), stdout);
     puts("# prepay_statement");
-    memset(statement, 0xEE, sizeof statement);
-    expect(prepay_statement((const uint8_t *)text, text_len, statement, sizeof statement - 1) == 0, "a short buffer gets 0");
-    expect(statement[0] == 0xEE, "and is left alone");
-    n = prepay_statement((const uint8_t *)text, text_len, statement, sizeof statement);
-    fwrite(statement, 1, n, stdout);
-    expect(n < sizeof statement && statement[n] == 0xEE, "the bytes after the answer stay as they are");
-
-    /* The account has the same figures. */
-    for (uint32_t month = 0; month <= 14; month++)
-        at += (size_t)print_month(lines + at, sizeof lines - at, month);
-    expect(n == at && memcmp(lines, statement, n) == 0, "prepay_summary has the figures of prepay_statement");
+    fwrite(out, 1, prepay_statement(text, text_len, out, PREPAY_STATEMENT_ROOM), stdout);
+    expect(prepay_transcript(text, text_len, out, PREPAY_TRANSCRIPT_ROOM - 1) == 0, "a short buffer gets 0");
+    expect(prepay_statement(text, text_len, out, PREPAY_STATEMENT_ROOM - 1) == 0, "a short buffer gets 0");
 }
 
-int main(void) {
-    static prepay_account singly;
+int main(int argc, char **argv) {
+    if (prepay_version() != PREPAY_VERSION) {
+        puts("the library is of another version than head.h");
+        return 2;
+    }
+    if (argc == 2) {
+        static uint8_t text[PREPAY_MAX_TEXT + 1];
+        FILE *file = fopen(argv[1], "rb");
+        if (!file)
+            return 2;
+        of_text(text, fread(text, 1, sizeof text, file));
+        fclose(file);
+        return wrong;
+    }
     uint8_t codes[EVENTS];
-
+    puts("# single posts");
     single_posts(codes);
-    memcpy(&singly, &account, sizeof singly);
+    prepay_account singly = account;
+    puts("# rows");
     rows(&singly, codes);
-    month_of_opening();
-    texts();
+    puts("# month 0");
+    print_month(0);
     puts(wrong ? "# WRONG" : "# as it should be");
     return wrong;
 }

@@ -2,8 +2,9 @@
 """The structs and functions of include/head.h, and what Rattle proves of them.
 
 layout.py fields          the lines of layout.c that print each struct and field of the header
+layout.py crates          the crates whose types and functions the header has
 layout.py proved GOALS    the proved layout, in the lines that `layout print` prints; GOALS has what `rt check --generated GOALS/NAME` writes
-                          of calendar, terms, ledger, image and head
+                          of each crate that `layout.py crates` prints
 
 Sizes, alignments and the places of the fields are the proved numbers (`given` of each type's TheLaws.antt, which `lies` proves of the
 types of its `table`). C's rule, each field at the next multiple of its alignment, is applied to the whole struct too and must give the
@@ -17,25 +18,24 @@ from pathlib import Path
 TYPES = {
     "prepay_terms": "terms::Terms",
     "prepay_event": "ledger::Event",
-    "prepay_answer": "ledger::Answer",
-    "prepay_totals": "image::TotalsImage",
-    "prepay_day": "image::DayImage",
-    "prepay_payment": "image::PaymentImage",
-    "prepay_account": "image::Image",
-    "prepay_reading": "image::Reading",
-    "prepay_counted": "ledger::Counted",
-    "prepay_used": "ledger::Used",
-    "prepay_summary_figures": "ledger::Summary",
+    "prepay_totals": "numbers::TotalsNumbers",
+    "prepay_day": "numbers::DayNumbers",
+    "prepay_payment": "numbers::PaymentNumbers",
+    "prepay_account": "numbers::Numbers",
+    "prepay_answer": "head::AnswerNumbers",
+    "prepay_reading": "head::ReadingNumbers",
+    "prepay_figures": "head::FigureNumbers",
+    "prepay_reader": "reader::Reader",
     "uint8_t": "u8",
     "uint32_t": "u32",
     "size_t": "u64",
 }
 # head.h has the date's fields in the terms themselves.
-FLAT = {"prepay_terms": "opened"}
+FLAT = {"prepay_terms": ("opened", "calendar::Date")}
 
 HEADER = re.sub(r"/\*.*?\*/", "", (Path(__file__).parent / "../include/head.h").read_text(), flags=re.S)
 # Each struct's fields.
-STRUCTS = {c: re.findall(r"(\w+)(?:\[\d+\])?[,;]", body) for body, c in re.findall(r"typedef struct \{([^}]*)\} (\w+);", HEADER)}
+STRUCTS = {c: re.findall(r"(\w+)(?:\[[^]]*\])?[,;]", body) for body, c in re.findall(r"typedef struct \{([^}]*)\} (\w+);", HEADER)}
 # Result, name and parameters of each function.
 FUNCTIONS = re.findall(r"^(\w+) (prepay_\w+)\((.*)\);$", HEADER, re.M)
 
@@ -43,7 +43,7 @@ FUNCTIONS = re.findall(r"^(\w+) (prepay_\w+)\((.*)\);$", HEADER, re.M)
 def prototype(result, parameters):
     """Result, then parameters, as Rattle has them: a pointer and a count are a slice."""
     types = [TYPES[result]]
-    for p in parameters.split(", "):
+    for p in parameters.split(", ") if parameters != "void" else []:
         const, c, pointer, name_ = re.fullmatch(r"(const )?(\w+) (\*?)(\w+)", p).groups()
         if c == "size_t":
             mark, of = re.fullmatch(r"(&mut |&)(.*)", types.pop()).groups()
@@ -177,8 +177,9 @@ def print_type(goals, c, type_):
     size, align, rows = laws(goals, type_)
     print(f"{c} size={size} align={align}")
     for field, at, size, signed, part in rows:
-        if FLAT.get(c) == field:
-            inner = laws(goals, name(part[1][1]))[2]
+        if FLAT.get(c, ("",))[0] == field:
+            assert name(part[1][1]) == FLAT[c][1], (field, part)
+            inner = laws(goals, FLAT[c][1])[2]
             inner = [(n, at + a, s, g) for n, a, s, g, _ in inner]
         else:
             inner = [(field, at, size, signed)]
@@ -219,6 +220,11 @@ def main():
             print(f"TYPE({c});")
             for n in names:
                 print(f"FIELD({c}, {n});")
+        return
+    if sys.argv[1] == "crates":
+        # `head` last: the functions are its own.
+        types = [*TYPES.values()] + [type_ for _, type_ in FLAT.values()]
+        print(*sorted({t.split("::")[0] for t in types if "::" in t}, key=lambda crate: (crate == "head", crate)))
         return
     goals = Path(sys.argv[2])
     for result, function, parameters in FUNCTIONS:

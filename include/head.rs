@@ -1,6 +1,8 @@
-//! head.h in Rust, for compare/ and bench/: its numbers, structs and calls. The account is bytes: its fields are the library's own.
+//! head.h in Rust, for compare/ and bench/: its numbers, structs and calls.
 
-use std::mem::size_of;
+#![allow(dead_code)]
+
+use std::mem::{align_of, size_of};
 
 /// The number that head.h defines under a name.
 const fn defined(name: &str) -> usize {
@@ -18,10 +20,17 @@ const fn defined(name: &str) -> usize {
     number
 }
 
-pub const TEXT_MOST: usize = defined("#define PREPAY_TEXT_MOST ");
+pub const VERSION: usize = defined("#define PREPAY_VERSION ");
+pub const DAYS: usize = defined("#define PREPAY_DAYS ");
+pub const MONTHS: usize = defined("#define PREPAY_MONTHS ");
+pub const CHARGE_KINDS: usize = defined("#define PREPAY_CHARGE_KINDS ");
+pub const MAX_PAYMENTS: usize = defined("#define PREPAY_MAX_PAYMENTS ");
+pub const MAX_TEXT: usize = defined("#define PREPAY_MAX_TEXT ");
 pub const TRANSCRIPT_ROOM: usize = defined("#define PREPAY_TRANSCRIPT_ROOM ");
 pub const STATEMENT_ROOM: usize = defined("#define PREPAY_STATEMENT_ROOM ");
 pub const ACCOUNT_SIZE: usize = defined("#define PREPAY_ACCOUNT_SIZE ");
+/// PREPAY_END.
+pub const END: u8 = 255;
 
 #[repr(C)]
 #[derive(Clone, Copy, Debug, Default, PartialEq, Eq)]
@@ -50,15 +59,77 @@ pub struct Event {
 }
 
 #[repr(C)]
-#[derive(Clone, Copy, Debug, PartialEq, Eq)]
-pub struct Answer {
-    pub code: u8,
-    pub value: u64,
+#[derive(Clone, Copy, Debug, Default, PartialEq, Eq)]
+pub struct Totals {
+    pub credit: u64,
+    pub debit: u64,
+    pub plan: u64,
+    pub standing: u64,
+    pub count: u32,
+    pub events: u32,
+    pub last: u32,
+    pub on: u32,
 }
 
-#[repr(C, align(8))]
-#[derive(Clone, Copy)]
-pub struct Account(pub [u8; ACCOUNT_SIZE]);
+#[repr(C)]
+#[derive(Clone, Copy, Debug, Default, PartialEq, Eq)]
+pub struct Day {
+    pub state: u32,
+    pub wh: u32,
+    pub cost: u32,
+}
+
+#[repr(C)]
+#[derive(Clone, Copy, Debug, Default, PartialEq, Eq)]
+pub struct Payment {
+    pub day: u32,
+    pub amount: u32,
+    pub part: u32,
+    pub reversed: u32,
+}
+
+#[repr(C)]
+#[derive(Clone, Copy, Debug, PartialEq, Eq)]
+pub struct Account {
+    pub totals: Totals,
+    pub charges: [u64; MONTHS * CHARGE_KINDS],
+    pub terms: Terms,
+    pub days: [Day; DAYS],
+    pub payments: [Payment; MAX_PAYMENTS],
+    pub spare: u32,
+    pub marks: [u8; DAYS],
+    pub warned: [u8; DAYS],
+}
+
+impl Account {
+    /// Memory for an account, of these bytes: any are numbers of one.
+    pub const fn of_bytes(bytes: [u8; ACCOUNT_SIZE]) -> Account {
+        // SAFETY: both have ACCOUNT_SIZE bytes, every one of a number.
+        unsafe { std::mem::transmute(bytes) }
+    }
+
+    /// The same, of one byte alone.
+    pub const fn filled(byte: u8) -> Account {
+        Account::of_bytes([byte; ACCOUNT_SIZE])
+    }
+
+    pub const fn bytes(&self) -> &[u8; ACCOUNT_SIZE] {
+        // SAFETY: as above; a byte has no alignment.
+        unsafe { &*(self as *const Account).cast() }
+    }
+
+    pub const fn bytes_mut(&mut self) -> &mut [u8; ACCOUNT_SIZE] {
+        // SAFETY: as above.
+        unsafe { &mut *(self as *mut Account).cast() }
+    }
+}
+
+#[repr(C)]
+#[derive(Clone, Copy, Debug, PartialEq, Eq)]
+pub struct Answer {
+    pub code: u64,
+    pub value: u64,
+}
 
 #[repr(C)]
 #[derive(Clone, Copy, Debug, PartialEq, Eq)]
@@ -72,47 +143,90 @@ pub struct Reading {
 
 #[repr(C)]
 #[derive(Clone, Copy, Debug, Default, PartialEq, Eq)]
-pub struct Counted {
-    pub count: u32,
-    pub sum: u64,
-}
-
-#[repr(C)]
-#[derive(Clone, Copy, Debug, Default, PartialEq, Eq)]
-pub struct Used {
-    pub wh: u64,
-    pub cost: u64,
-}
-
-#[repr(C)]
-#[derive(Clone, Copy, Debug, Default, PartialEq, Eq)]
 pub struct Figures {
-    pub code: u8,
-    pub kept: Counted,
-    pub reversed: Counted,
-    pub metered: Used,
-    pub estimated: Used,
-    pub charges: [u64; 5],
+    pub code: u64,
+    pub kept_count: u64,
+    pub kept_sum: u64,
+    pub reversed_count: u64,
+    pub reversed_sum: u64,
+    pub metered_wh: u64,
+    pub metered_cost: u64,
+    pub estimated_wh: u64,
+    pub estimated_cost: u64,
+    pub charges: [u64; CHARGE_KINDS],
     pub average: u64,
-    /// C's bool, taken as the byte it is.
-    pub missing: u8,
+    pub missing: u64,
+}
+
+#[repr(C)]
+#[derive(Clone, Copy, Debug, Default, PartialEq, Eq)]
+pub struct Reader {
+    pub place: u32,
+    pub code: u32,
 }
 
 const _: () = assert!(
     size_of::<Terms>() == 28
         && size_of::<Event>() == 36
-        && size_of::<Answer>() == 16
         && size_of::<Account>() == ACCOUNT_SIZE
+        && align_of::<Account>() == 8
+        && size_of::<Answer>() == 16
         && size_of::<Reading>() == 40
         && size_of::<Figures>() == 128
+        && size_of::<Reader>() == 8
 );
 
 extern "C" {
-    pub fn prepay_transcript(text: *const u8, text_len: usize, out: *mut u8, out_len: usize) -> usize;
-    pub fn prepay_statement(text: *const u8, text_len: usize, out: *mut u8, out_len: usize) -> usize;
-    pub fn prepay_open(account: *mut Account, terms: Terms) -> u8;
-    pub fn prepay_post(account: *mut Account, event: Event) -> Answer;
+    pub fn prepay_version() -> u32;
+    pub fn prepay_open(account: *mut Account, terms: *const Terms) -> u8;
+    pub fn prepay_post(account: *mut Account, event: *const Event) -> Answer;
     pub fn prepay_row(account: *mut Account, row: *const Event, count: usize, codes: *mut u8, codes_len: usize) -> u8;
     pub fn prepay_readings(account: *const Account) -> Reading;
     pub fn prepay_summary(account: *const Account, month: u32) -> Figures;
+    pub fn prepay_read_terms(text: *const u8, text_len: usize, reader: *mut Reader, terms: *mut Terms) -> u8;
+    pub fn prepay_read_event(text: *const u8, text_len: usize, reader: *mut Reader, event: *mut Event) -> u8;
+    pub fn prepay_transcript(text: *const u8, text_len: usize, out: *mut u8, out_len: usize) -> usize;
+    pub fn prepay_statement(text: *const u8, text_len: usize, out: *mut u8, out_len: usize) -> usize;
+}
+
+// SAFETY of all: what is lent is as long as the header asks, and a `&mut` is the only reference to it.
+
+pub fn version() -> u32 {
+    unsafe { prepay_version() }
+}
+
+pub fn open(account: &mut Account, terms: &Terms) -> u8 {
+    unsafe { prepay_open(account, terms) }
+}
+
+pub fn post(account: &mut Account, event: &Event) -> Answer {
+    unsafe { prepay_post(account, event) }
+}
+
+pub fn row(account: &mut Account, row: &[Event], codes: &mut [u8]) -> u8 {
+    unsafe { prepay_row(account, row.as_ptr(), row.len(), codes.as_mut_ptr(), codes.len()) }
+}
+
+pub fn readings(account: &Account) -> Reading {
+    unsafe { prepay_readings(account) }
+}
+
+pub fn summary(account: &Account, month: u32) -> Figures {
+    unsafe { prepay_summary(account, month) }
+}
+
+pub fn read_terms(text: &[u8], reader: &mut Reader, terms: &mut Terms) -> u8 {
+    unsafe { prepay_read_terms(text.as_ptr(), text.len(), reader, terms) }
+}
+
+pub fn read_event(text: &[u8], reader: &mut Reader, event: &mut Event) -> u8 {
+    unsafe { prepay_read_event(text.as_ptr(), text.len(), reader, event) }
+}
+
+pub fn transcript(text: &[u8], out: &mut [u8]) -> usize {
+    unsafe { prepay_transcript(text.as_ptr(), text.len(), out.as_mut_ptr(), out.len()) }
+}
+
+pub fn statement(text: &[u8], out: &mut [u8]) -> usize {
+    unsafe { prepay_statement(text.as_ptr(), text.len(), out.as_mut_ptr(), out.len()) }
 }

@@ -8,7 +8,13 @@ pub const MOST_WH: u32 = 9_999_999;
 pub const MONTHS: usize = 15;
 
 /// Both sides can be lent the same row.
-pub use crate::head::{Answer, Event, Terms};
+pub use crate::head::{Event, Terms};
+
+#[derive(Clone, Copy)]
+pub struct Answer {
+    pub code: u8,
+    pub value: u64,
+}
 
 pub const PAY: u32 = 1;
 pub const REVERSE: u32 = 2;
@@ -396,15 +402,6 @@ impl Account {
             }
             _ => refuse(3),
         }
-    }
-
-    /// The form that document 01 names for the head: copy the record, post to the copy, store it.
-    #[inline(never)]
-    pub fn post_by_copy(&mut self, e: &Event) -> Answer {
-        let mut copy = *self;
-        let answer = copy.post(e);
-        *self = copy;
-        answer
     }
 
     /// Posts the row in order, a code byte each. 0; or 16, nothing posted and nothing written, where the bytes are fewer than the events.

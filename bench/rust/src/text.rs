@@ -3,7 +3,7 @@
 use crate::account::*;
 use std::io::{self, Write};
 
-pub use crate::head::TEXT_MOST;
+pub use crate::head::MAX_TEXT;
 /// No line is longer.
 const LINE: usize = 128;
 
@@ -287,7 +287,7 @@ fn line(sink: &mut impl Sink, n: u64, answer: Answer, balance: i64, plan: u64) {
 #[inline(always)]
 fn run(text: &[u8], mut each: impl FnMut(u64, Answer, &Account)) -> Result<Account, u8> {
     let mut reader = Reader { rest: text };
-    if text.len() > TEXT_MOST {
+    if text.len() > MAX_TEXT {
         return Err(15);
     }
     let terms = reader.terms().ok_or(15)?;
@@ -359,7 +359,7 @@ pub fn standard_input() -> io::Result<Vec<u8>> {
     use std::os::fd::FromRawFd;
     // Not closed: the process ends soon.
     let mut input = std::mem::ManuallyDrop::new(unsafe { std::fs::File::from_raw_fd(0) });
-    let mut text = vec![0; TEXT_MOST + 1];
+    let mut text = vec![0; MAX_TEXT + 1];
     let mut len = 0;
     while len < text.len() {
         match input.read(&mut text[len..]) {

@@ -231,24 +231,24 @@ fn long_texts() {
     let n = (texts() / 40).max(1);
     for seed in 0..n {
         let r = &mut Rng::new(seed ^ 0x5555);
-        check(&mix::text(r.next(), &some_terms(r), text::TEXT_MOST).0, "long mix");
+        check(&mix::text(r.next(), &some_terms(r), text::MAX_TEXT).0, "long mix");
         // 4,096 warnings and more of all.
         let mut full = Vec::new();
         text::write_terms(&mut full, &some_terms(r));
         for _ in 0..20 {
             text::write_event(&mut full, &Event { day: 3, ..wild_event(r, &mut 3) });
         }
-        while full.len() + 14 * 20 < text::TEXT_MOST {
+        while full.len() + 14 * 20 < text::MAX_TEXT {
             let warn = Event { sort: WARN, day: 3, ..Event::default() };
             let e = if r.below(100) == 0 { wild_event(r, &mut 3) } else { warn };
             text::write_event(&mut full, &Event { day: 3, ..e });
         }
         check(&full, "full");
         let mut at = full.clone();
-        while at.len() < text::TEXT_MOST {
+        while at.len() < text::MAX_TEXT {
             at.push(b'x');
         }
-        at.truncate(text::TEXT_MOST);
+        at.truncate(text::MAX_TEXT);
         check(&at, "65,536 bytes");
         at.push(b'\n');
         check(&at, "65,537 bytes");
