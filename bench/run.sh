@@ -1,8 +1,9 @@
 #!/bin/bash
-# bench/run.sh [SAMPLES]: what the Rattle head costs, beside a Rust account written for speed (rust/), the slow reference (compare/reference)
-# and a bare copy of the record. Both sides in one run, release builds, the same inputs, medians of SAMPLES (default 201) runs in turn, on
-# one core. Needs crates/head/out/libhead.a and crates/prepay/out/prepay (rt lib in crates/head, rt run </dev/null in crates/prepay),
-# cargo and a C compiler; valgrind for the counted instructions. HEAD_LIB and HEAD_BIN name other folders. Everything is built in bench/rust/target. About a minute.
+# bench/run.sh [SAMPLES]: what the calls of include/head.h and the program prepay cost, beside a Rust account written for speed (rust/), the
+# slow reference (compare/reference) and a bare copy of the account. Both sides in one run, release builds, the same inputs, medians of
+# SAMPLES (default 201) runs in turn, on one core. Needs crates/head/out/libhead.a and crates/prepay/out/prepay (rt lib in crates/head, rt run
+# </dev/null in crates/prepay), cargo and a C compiler; valgrind for the counted instructions. HEAD_LIB and HEAD_BIN name other folders.
+# Everything is built in bench/rust/target. About a minute. The status is 1 where a call has more stack than it may.
 set -euo pipefail
 cd "$(dirname "$0")"
 samples=${1:-201}
@@ -23,7 +24,8 @@ quiet env HEAD_LIB="$work" cargo build --release --offline --locked --manifest-p
 quiet cargo build --release --offline --locked --manifest-path ../compare/reference/Cargo.toml --target-dir "$target/reference" --bin prepay_ref
 cp "$target/release/prepay_fast" "$target/release/measure" "$target/reference/release/prepay_ref" "$work/"
 quiet "${CC:-cc}" -O2 -Wall -Wextra process.c -o "$work/process"
-quiet "${CC:-cc}" -O2 -Wall -Wextra -I../include stack.c "$work/libhead.a" -o "$work/stack"
+# Bound at once: the first call of memcpy would run the dynamic linker on the measured stack.
+quiet "${CC:-cc}" -O2 -Wall -Wextra -I../include stack.c "$work/libhead.a" -Wl,-z,now -o "$work/stack"
 
 cd "$work"
 ./measure text >text
@@ -73,7 +75,8 @@ fi
 echo
 echo "## Memory"
 echo
-./stack row text
+status=0
+./stack row text || status=1
 # The programs keep their buffers on the stack: the least `ulimit -s` they run with.
 least() {
     local low=0 high=8192 middle
@@ -87,3 +90,4 @@ echo
 echo "Least stack that the programs run with (ulimit -s): prepay $(least prepay) KiB, prepay_fast $(least prepay_fast) KiB."
 echo
 echo "Load average at the end: $(cut -d' ' -f1-3 /proc/loadavg)."
+exit $status

@@ -1,33 +1,37 @@
-/* stack ROW TEXT: the deepest stack of each call of libhead.a. The call runs on a stack of its own (makecontext), filled with a pattern
- * before; the deepest byte that changed tells. ROW: events as numbers, from `measure row`; TEXT: an event text. */
+/* stack ROW TEXT: the deepest stack of each call of libhead.a, the room for its answer included, on good numbers and on damaged ones. Each
+ * call runs on a stack of its own (makecontext), filled with a pattern before; the deepest word that changed tells. ROW: events as numbers,
+ * from `measure row`; TEXT: an event text. */
 #define _GNU_SOURCE
 #include "head.h"
 #include <stdio.h>
 #include <stdlib.h>
 #include <string.h>
-#include <sys/mman.h>
 #include <ucontext.h>
 
-enum { STACK = 16 << 20, MOST_EVENTS = 4096 };
+enum { STACK = 1 << 18, DAMAGED = 300 };
+static const uint64_t PATTERN = 0xa5a5a5a5a5a5a5a5;
 
-static uint8_t *stack;
+static uint64_t stack[STACK / sizeof(uint64_t)];
 static ucontext_t here, there;
 static uint8_t *top; /* where the stack stood before the call */
 
-static prepay_account account;
-static prepay_event row[MOST_EVENTS];
+static prepay_account account, other;
+static prepay_event row[PREPAY_MAX_EVENTS], event;
+static prepay_terms terms = {2024, 1, 1, 1250, 5000, 1000, 50}, terms_read;
+static prepay_reader reader;
 static size_t events, text_len;
-static uint8_t codes[MOST_EVENTS], text[PREPAY_TEXT_MOST + 1], out[PREPAY_TRANSCRIPT_ROOM];
-static const prepay_terms terms = {2024, 1, 1, 1250, 5000, 1000, 50};
-static size_t at; /* the event that is posted */
+static uint32_t month;
+static uint8_t codes[PREPAY_MAX_EVENTS], text[PREPAY_MAX_TEXT + 1], out[PREPAY_TRANSCRIPT_ROOM];
 static volatile uint64_t sink;
 
 static void nothing(void) {}
-static void open_(void) { sink = prepay_open(&account, terms); }
-static void post(void) { sink = prepay_post(&account, row[at]).code; }
+static void open_(void) { sink = prepay_open(&other, &terms); }
+static void post(void) { sink = prepay_post(&account, &event).code; }
 static void whole_row(void) { sink = prepay_row(&account, row, events, codes, sizeof codes); }
-static void readings(void) { sink = prepay_readings(&account).balance; }
-static void summary(void) { sink = prepay_summary(&account, 3).average; }
+static void readings(void) { sink = (uint64_t)prepay_readings(&account).balance; }
+static void summary(void) { sink = prepay_summary(&account, month).average; }
+static void read_terms(void) { sink = prepay_read_terms(text, text_len, &reader, &terms_read); }
+static void read_event(void) { sink = prepay_read_event(text, text_len, &reader, &event); }
 static void transcript(void) { sink = prepay_transcript(text, text_len, out, sizeof out); }
 static void statement(void) { sink = prepay_statement(text, text_len, out, sizeof out); }
 
@@ -39,7 +43,9 @@ static __attribute__((noinline)) void trampoline(void) {
 }
 
 static size_t depth(void (*f)(void)) {
-    memset(stack, 0xa5, STACK);
+    size_t i = 0;
+    while (i < STACK / sizeof *stack)
+        stack[i++] = PATTERN;
     called = f;
     getcontext(&there);
     there.uc_stack.ss_sp = stack;
@@ -47,41 +53,123 @@ static size_t depth(void (*f)(void)) {
     there.uc_link = &here;
     makecontext(&there, trampoline, 0);
     swapcontext(&here, &there);
-    uint8_t *deepest = stack;
-    while (*deepest == 0xa5) deepest++;
-    return top - deepest;
+    for (i = 0; stack[i] == PATTERN; i++) {}
+    if (i == 0)
+        exit(3); /* too small a stack for this program */
+    return (size_t)(top - (uint8_t *)&stack[i]);
+}
+
+/* The calls, and the greatest depth of each: on good numbers, on damaged ones. */
+static struct {
+    const char *name;
+    void (*call)(void);
+    size_t most[2];
+} calls[] = {
+    {"prepay_open", open_, {0}},
+    {"prepay_post", post, {0}},
+    {"prepay_row", whole_row, {0}},
+    {"prepay_readings", readings, {0}},
+    {"prepay_summary", summary, {0}},
+    {"prepay_read_terms", read_terms, {0}},
+    {"prepay_read_event", read_event, {0}},
+    {"prepay_transcript", transcript, {0}},
+    {"prepay_statement", statement, {0}},
+};
+enum { CALLS = sizeof calls / sizeof calls[0], LIMITED = 5, LIMIT = 2048 };
+
+static void measure(void (*f)(void), int damaged) {
+    for (int i = 0; i < CALLS; i++)
+        if (calls[i].call == f) {
+            size_t d = depth(f);
+            if (d > calls[i].most[damaged])
+                calls[i].most[damaged] = d;
+        }
+}
+
+static void measure_readings(int damaged) {
+    measure(readings, damaged);
+    for (month = 0; month <= PREPAY_MONTHS; month++)
+        measure(summary, damaged);
+}
+
+static void measure_text(int damaged) {
+    measure(read_terms, damaged);
+    do
+        measure(read_event, damaged);
+    while (reader.code == 0);
+    measure(transcript, damaged);
+    measure(statement, damaged);
 }
 
 int main(int argc, char **argv) {
     if (argc != 3) return 2;
     FILE *f = fopen(argv[1], "r");
     if (!f) return 2;
-    for (prepay_event *e; events < MOST_EVENTS; events++) {
-        e = &row[events];
-        if (fscanf(f, "%u %u %u %u %u %u %u %u %u", &e->sort, &e->day, &e->amount, &e->number, &e->kind, &e->usage, &e->wh, &e->from, &e->to) != 9) break;
-    }
+    for (prepay_event *e = row; events < PREPAY_MAX_EVENTS; events++, e++)
+        if (fscanf(f, "%u %u %u %u %u %u %u %u %u", &e->sort, &e->day, &e->amount, &e->number, &e->kind, &e->usage, &e->wh, &e->from, &e->to) != 9)
+            break;
     fclose(f);
     f = fopen(argv[2], "r");
     if (!f) return 2;
     text_len = fread(text, 1, sizeof text, f);
     fclose(f);
-    stack = mmap(NULL, STACK, PROT_READ | PROT_WRITE, MAP_PRIVATE | MAP_ANONYMOUS, -1, 0);
-    if (stack == MAP_FAILED) return 2;
+
+    measure(open_, 0);
+    account = other;
+    measure(whole_row, 0);
+    measure_readings(0);
+    prepay_account after = account;
+    account = other;
+    for (size_t i = 0; i < events; i++) {
+        event = row[i];
+        measure(post, 0);
+    }
+    measure_text(0);
+
+    /* Damaged: random numbers; random numbers but for the terms, the payments' count and the totals; some numbers; some bits. */
+    srandom(1);
+    for (int i = 0; i < DAMAGED; i++) {
+        prepay_account damaged = after;
+        uint8_t *bytes = (uint8_t *)&damaged;
+        for (size_t k = 0; k < sizeof damaged; k++)
+            if (i % 4 < 2 || random() % 100 == 0)
+                bytes[k] = i % 4 == 3 ? bytes[k] ^ (uint8_t)(1 << random() % 8) : (uint8_t)random();
+        if (i % 4 > 0) {
+            damaged.terms = after.terms;
+            damaged.totals = after.totals;
+            damaged.totals.events = damaged.totals.last = 0; /* so that some are accepted */
+        }
+        account = damaged;
+        measure_readings(1);
+        for (size_t k = 0; k < 64; k++) {
+            event = row[(size_t)random() % events];
+            measure(post, 1);
+        }
+        account = damaged;
+        measure(whole_row, 1);
+        terms.share = (uint32_t)random() % 60;
+        measure(open_, 1);
+    }
+    size_t whole = text_len;
+    for (int i = 0; i < 30; i++) {
+        text_len = i % 2 ? whole : (size_t)random() % whole;
+        text[(size_t)random() % whole] = (uint8_t)random();
+        measure_text(1);
+        reader = (prepay_reader){(uint32_t)random() % (uint32_t)whole, 0};
+        measure(read_event, 1);
+    }
 
     size_t base = depth(nothing);
-    printf("| call | deepest stack, bytes |\n|---|---|\n");
-    printf("| prepay_open | %zu |\n", depth(open_) - base);
-    size_t most = 0;
-    for (at = 0; at < 256; at++) { /* some of each sort */
-        size_t d = depth(post) - base;
-        if (d > most) most = d;
+    printf("Deepest stack in bytes, the room for the answer included: a row of %zu events, each of them singly, a text of %zu bytes; then %d damaged "
+           "accounts and 30 damaged texts.\n\n",
+           events, whole, DAMAGED);
+    printf("| call | good numbers | damaged |\n|---|---|---|\n");
+    int above = 0;
+    for (int i = 0; i < CALLS; i++) {
+        size_t good = calls[i].most[0] - base, damaged = calls[i].most[1] - base;
+        printf("| %s | %zu | %zu |\n", calls[i].name, good, damaged);
+        above |= i < LIMITED && (good > LIMIT || damaged > LIMIT);
     }
-    printf("| prepay_post (greatest of %zu events) | %zu |\n", at, most);
-    prepay_open(&account, terms);
-    printf("| prepay_row of %zu events | %zu |\n", events, depth(whole_row) - base);
-    printf("| prepay_readings | %zu |\n", depth(readings) - base);
-    printf("| prepay_summary | %zu |\n", depth(summary) - base);
-    printf("| prepay_transcript of %zu bytes | %zu |\n", text_len, depth(transcript) - base);
-    printf("| prepay_statement of the same | %zu |\n", depth(statement) - base);
-    return 0;
+    printf("\nAim: at most %d for each of the first %d: %s.\n", LIMIT, LIMITED, above ? "MISSED" : "holds");
+    return above;
 }

@@ -1,88 +1,118 @@
-#!/bin/bash
-# The C interface from outside: builds the library where it is missing or older than the crates, the example and two more programs, runs
-# them, and holds them to the stored output, to the program `prepay`, and to the layout that Rattle proves. Ends with 0 if all held.
-# GOALS=no leaves out the proved layout (it needs `rt`, and a minute after a change of the crates). Of the repository it writes only
-# target/ and the crates' out/.
+#!/usr/bin/env bash
+# The C interface from outside: builds the library where it is missing or older than the crates, and the programs here, runs them, and holds
+# them to the stored output and to the programs `prepay` and `summary`. Needs `rt`, python3 and a C compiler. What else it would use and does
+# not find, it says. The last line is `examples: passed`, the status 0, if all held. Of the repository it writes target/ and the crates' out/.
+#   examples/run.sh          all: the header as C99, C11 and C++11, what the library calls, the structs as Rattle proves them (a minute after
+#                            a change of the crates), strange memory, and all of it under valgrind
+#   examples/run.sh gate     the gate's part: the example, and the structs by what the library does
 set -euo pipefail
 cd "$(dirname "$0")/.."
+mode=${1:-all}
+CC=${CC:-$(command -v cc || command -v gcc)}
 library=crates/head/out/libhead.a
 work=target/examples
 mkdir -p "$work"
 failed=0
 say() { echo "examples: $*"; }
 fail() { say "FAILED: $*"; failed=1; }
+# Runs a command, and tells what it said only where it fails.
+quiet() { "$@" >"$work/log" 2>&1 || { tail -20 "$work/log"; say "FAILED: $*"; exit 1; }; }
 # Whether a file is missing, or older than some file of a crate.
 stale() { [[ ! -e $1 ]] || [[ -n $(find crates crates.txt -name out -prune -o -newer "$1" -type f -print -quit) ]]; }
+in_crate() { (cd "crates/$1" && shift && "$@"); }
 
 if stale "$library"; then
     say "rt lib, in crates/head"
-    (cd crates/head && rt lib) >"$work/lib.log" 2>&1 || { tail -20 "$work/lib.log"; exit 1; }
+    quiet in_crate head rt lib
     touch "$library"
 fi
-
 python3 examples/layout.py fields >"$work/layout_fields.h"
-strict=(-Wall -Wextra -Werror -I include -I "$work")
+# In the gate any compiler's new warning is no failure.
+strict=(-pedantic -Wall -Wextra -I include -I "$work")
+[[ $mode == gate ]] || strict+=(-Werror)
 for name in example layout; do
-    gcc -std=c11 "${strict[@]}" -O2 "examples/$name.c" "$library" -o "$work/$name"
+    quiet "$CC" -std=c11 "${strict[@]}" -O2 "examples/$name.c" "$library" -o "$work/$name"
 done
-gcc -std=c11 "${strict[@]}" -O1 -g -fsanitize=address,undefined -fno-sanitize-recover=all examples/strange.c "$library" -o "$work/strange"
 
-# The library calls nothing but memcpy and memset.
-calls=$(nm "$library" | awk '$1 == "U" { print $2 }' | sort -u | tr '\n' ' ')
-[[ $calls == "memcpy memset " ]] || fail "the library calls $calls"
-
-# The header as C++, and as C on its own.
-printf '#include "head.h"\nstatic_assert(sizeof(prepay_account) == PREPAY_ACCOUNT_SIZE && alignof(prepay_account) == 8, "");\nuint8_t f(prepay_account &a, const prepay_event &e, uint8_t &c) { return prepay_row(&a, &e, 1, &c, 1); }\n' \
-    >"$work/header.cpp"
-g++ -x c++ -std=c++11 -fsyntax-only "${strict[@]}" "$work/header.cpp" || fail "head.h is no C++"
-gcc -x c -std=c11 -pedantic -fsyntax-only "${strict[@]}" include/head.h || fail "head.h does not stand alone"
-
-# The example.
+# The worked example; then texts, event by event and whole, against the programs.
 "$work/example" >"$work/example.out" || fail "example found something wrong"
-if diff "$work/example.out" examples/example.out; then
-    say "example prints example.out"
+diff "$work/example.out" examples/example.out || fail "example does not print example.out"
+head -c 200 crates/prepay/stdin >"$work/cut"
+sed 's/^share=.*/share=51/' crates/prepay/stdin >"$work/refused"
+sed 's/^share=.*/share=051/' crates/prepay/stdin >"$work/malformed"
+head -c 65537 /dev/zero | cat crates/prepay/stdin - >"$work/long"
+prepay=crates/prepay/out/prepay summary=crates/summary/out/summary
+if [[ -x $prepay && -x $summary ]]; then
+    for text in crates/prepay/stdin crates/summary/stdin "$work"/{cut,refused,malformed,long} /dev/null; do
+        lines=$("$prepay" <"$text") months=$("$summary" <"$text")
+        printf '%s\n' "# event by event" "$lines" "# months" "$months" "# prepay_transcript" "$lines" "# prepay_statement" "$months" \
+            >"$work/programs.out"
+        "$work/example" "$text" | diff - "$work/programs.out" || fail "example $text is not what prepay and summary print"
+    done
 else
-    fail "example does not print example.out"
+    say "no $prepay or no $summary: the texts are not held to them"
 fi
-# One part of what it prints: the lines after `# NAME` up to the next `#`.
-part() { awk -v name="# $1" '/^#/ { on = $0 == name; next } on' "$work/example.out"; }
-sed -n '/^static const char text/,/;$/p' examples/example.c | grep -o '"[^"]*"' | tr -d '"\n' | sed 's/\\n/\n/g' >"$work/text"
-for pair in "prepay:single posts" "prepay:prepay_transcript" "summary:prepay_statement"; do
-    program=crates/${pair%%:*}/out/${pair%%:*} name=${pair#*:}
-    if [[ ! -x $program ]]; then
-        say "no $program: $name is not held to it"
-    elif diff <(part "$name") <("$program" <"$work/text"); then
-        say "$name is what $program prints"
-    else
-        fail "$name is not what $program prints"
-    fi
-done
 
-# The structs: what the library does, then what is proved.
+# The structs, by what the library does.
 "$work/layout" check || fail "the structs of head.h are not the library's"
-if [[ ${GOALS:-} != no ]]; then
+
+if [[ $mode != gate ]]; then
+    # The header by itself; what the library calls.
+    for std in c99 c11; do
+        quiet "$CC" -x c -std=$std "${strict[@]}" -fsyntax-only - <<<'#include "head.h"'
+    done
+    if command -v g++ >"$work/log"; then
+        quiet g++ -x c++ -std=c++11 "${strict[@]}" -fsyntax-only - <<<'#include "head.h"'
+    else
+        say "no g++: head.h is not compiled as C++"
+    fi
+    if command -v nm >"$work/log"; then
+        calls=$(nm "$library" | awk '$1 == "U" { print $2 }' | sort -u | tr '\n' ' ')
+        [[ $calls == "memcpy memset " ]] || fail "the library calls $calls"
+    else
+        say "no nm: what the library calls is not looked at"
+    fi
+
+    # The structs, by what Rattle proves.
     proved=$work/layout.rattle.out
     if stale "$proved" || [[ include/head.h -nt $proved || examples/layout.py -nt $proved ]]; then
         # rt's modules are not for the repository, where each .antt file is a crate's.
         goals=$(mktemp -d)
         trap 'rm -rf "$goals"' EXIT
-        for crate in calendar terms ledger image head; do
+        for crate in $(python3 examples/layout.py crates); do
             say "rt check --generated, in crates/$crate"
-            (cd "crates/$crate" && rt check --generated "$goals/$crate") >"$work/goals.log" 2>&1 || { tail -20 "$work/goals.log"; exit 1; }
+            quiet in_crate "$crate" rt check --generated "$goals/$crate"
         done
         python3 examples/layout.py proved "$goals" >"$proved.new" && mv "$proved.new" "$proved" || fail "the proved layout could not be read"
     fi
     "$work/layout" print >"$work/layout.c.out"
     if diff "$work/layout.c.out" "$proved"; then
-        say "sizes, alignments and places of $(grep -c '^[^.]* size' "$work/layout.c.out") structs with" \
-            "$(grep -c 'at=' "$work/layout.c.out") fields are those that Rattle proves; so are the types of the $(grep -c '^[a-z].*);$' include/head.h) functions"
+        say "sizes, alignments and places of $(grep -c '^[^.]* size' "$proved") structs with $(grep -c 'at=' "$proved") fields are those that" \
+            "Rattle proves; so are the types of the $(grep -c '^[a-z].*);$' include/head.h) functions"
     else
         fail "head.h (<) is not what Rattle proves (>)"
     fi
-fi
 
-# Memory that no call wrote.
-"$work/strange" 1 2 3 4 5 6 | tail -2 || fail "strange bytes"
+    # Memory that no call wrote, with the compiler's sanitizers where they are.
+    strange=("$CC" -std=c11 "${strict[@]}" -O2 -g examples/strange.c "$library")
+    quiet "${strange[@]}" -o "$work/strange"
+    if "${strange[@]}" -fsanitize=address,undefined -fno-sanitize-recover=all -o "$work/sanitized" 2>"$work/log"; then
+        "$work/sanitized" 1 2 3 || fail "strange memory"
+    else
+        say "no sanitizers: strange runs without them"
+        "$work/strange" 1 2 3 || fail "strange memory"
+    fi
+
+    if command -v valgrind >"$work/log"; then
+        for program in example "example crates/summary/stdin" "layout check" "strange 1"; do
+            # shellcheck disable=SC2086
+            quiet valgrind -q --error-exitcode=9 "$work"/$program
+        done
+        say "valgrind is silent"
+    else
+        say "no valgrind"
+    fi
+fi
 
 if [[ $failed == 0 ]]; then say "passed"; else say "FAILED"; fi
 exit $failed

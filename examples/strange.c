@@ -1,7 +1,8 @@
-/* Memory that no call of the library wrote, given to it as an account: it must answer, touch nothing, and not fall over.
+/* Memory that no call of the library wrote, given to it as an account, as a row, as a text or as a reader: it must answer by what head.h
+ * says, change nothing where it refuses, and touch nothing else. Arguments: seeds.
  *
- * run.sh builds it with gcc's address and undefined sanitizers. The account lies against a page that may not be touched, once in front
- * of it and once behind it, so that a read or write outside it ends the program. Arguments: seeds.
+ * What is lent lies against a page that may not be touched, so that a read or write outside it ends the program; the account once at the
+ * end of its pages and once at their start. run.sh builds it with gcc's address and undefined sanitizers, where they are.
  */
 #define _DEFAULT_SOURCE
 #include <inttypes.h>
@@ -29,7 +30,7 @@ static void fill(void *at, size_t count) {
         ((uint8_t *)at)[i] = (uint8_t)next();
 }
 
-static unsigned long wrong, no_accounts, accounts, events_refused, events_accepted;
+static unsigned long wrong, no_accounts, accounts, refused, accepted, readings;
 
 static void expect(int held, const char *what) {
     if (!held && wrong++ < 20)
@@ -37,7 +38,7 @@ static void expect(int held, const char *what) {
 }
 
 /* `count` bytes that end where their page ends, or that start where it starts; the pages around are closed. */
-static uint8_t *fenced(size_t count, int at_end) {
+static void *fenced(size_t count, int at_end) {
     size_t page = (size_t)sysconf(_SC_PAGESIZE);
     size_t room = (count + page - 1) / page * page;
     uint8_t *all = mmap(NULL, room + 2 * page, PROT_NONE, MAP_PRIVATE | MAP_ANONYMOUS, -1, 0);
@@ -46,6 +47,27 @@ static uint8_t *fenced(size_t count, int at_end) {
         exit(2);
     }
     return all + page + (at_end ? room - count : 0);
+}
+
+/* ---- accounts */
+
+static prepay_account *a; /* the account, in closed pages */
+enum { MOST = 40 };
+static prepay_event *row;
+static uint8_t *codes;
+
+static const uint64_t MAX_TOTAL = UINT64_C(1) << 60;
+static int within_limits(const prepay_terms *t) {
+    static const uint32_t days[] = {31, 28, 31, 30, 31, 30, 31, 31, 30, 31, 30, 31};
+    return t->year >= 2000 && t->year <= 2099 && t->month >= 1 && t->month <= 12 && t->day >= 1 &&
+           t->day <= days[t->month - 1] + (t->month == 2 && t->year % 4 == 0) && t->price >= 1 && t->price <= 99999 &&
+           t->connect <= 7500 && t->cutoff <= 1000 && t->cutoff <= t->connect && t->share <= 50;
+}
+
+static int is_account(void) {
+    const prepay_totals *t = &a->totals;
+    return within_limits(&a->terms) && t->count <= PREPAY_MAX_PAYMENTS && t->credit <= MAX_TOTAL && t->debit <= MAX_TOTAL &&
+           t->plan <= MAX_TOTAL && t->standing <= MAX_TOTAL;
 }
 
 static uint32_t any_number(void) {
@@ -66,95 +88,72 @@ static prepay_event any_event(uint32_t sort) {
     return e;
 }
 
-static int same_reading(prepay_reading a, prepay_reading b) {
-    return a.balance == b.balance && a.settled == b.settled && a.plan == b.plan && a.estimates == b.estimates && a.service == b.service;
+/* Whether an event may be answered so. */
+static int may_be(uint64_t code, int account, uint32_t sort) {
+    return account ? code <= PREPAY_DAY_BARRED && (code != PREPAY_NO_ACCOUNT || sort == PREPAY_CHARGE) : code == PREPAY_NO_ACCOUNT;
 }
 
-static int empty_figures(prepay_summary_figures s) {
-    uint64_t all = s.kept.count | s.kept.sum | s.reversed.count | s.reversed.sum | s.metered.wh | s.metered.cost | s.estimated.wh |
-                   s.estimated.cost | s.average;
-    for (int i = 0; i < 5; i++)
-        all |= s.charges[i];
-    return all == 0;
-}
+/* Reads the account and posts to it. */
+static void feed(void) {
+    prepay_account was = *a;
+    int account = is_account();
+    *(account ? &accounts : &no_accounts) += 1;
 
-static int same_account(const prepay_account *a, const prepay_account *was) {
-    return memcmp(a, was, sizeof *a) == 0;
-}
-
-/* Posts to `a` what comes to mind. `surely_none`: its bytes cannot be an account. */
-static void feed(prepay_account *a, int surely_none, prepay_event *row, uint8_t *codes, size_t most) {
-    static prepay_account was;
-    memcpy(&was, a, sizeof was);
-
-    /* Is it an account, as far as the library looks? A warning on day 0 is refused by 1, 2 or 4 or accepted: 1 tells. (A sum that no
-     * account can have, as of charges near 2^64, it sees only where an event would add to it: 1 then too.) */
-    static prepay_account trial;
-    memcpy(&trial, a, sizeof trial);
-    int none = prepay_post(&trial, (prepay_event){.sort = PREPAY_WARN}).code == 1;
-    expect(none || !surely_none, "random bytes are no account");
-    if (none)
-        no_accounts++;
-    else
-        accounts++;
-
-    /* What the readings of no account are, head.h leaves open: they come, and come alike, and nothing is written. */
-    expect(same_reading(prepay_readings(a), prepay_readings(&was)), "the readings are those of the bytes");
+    const prepay_totals *t = &a->totals;
+    prepay_reading r = prepay_readings(a);
+    int sums = t->credit <= MAX_TOTAL && t->debit <= MAX_TOTAL, all = sums && t->plan <= MAX_TOTAL && t->standing <= MAX_TOTAL;
+    expect(r.balance == (sums ? (int64_t)(t->credit - t->debit) : 0), "the balance is credit less debit, or 0");
+    expect(r.settled == (all ? (int64_t)(t->credit - t->debit - t->plan + t->standing) : 0), "the settled amount is the totals', or 0");
+    expect(r.plan == t->plan && r.estimates == t->standing && r.service == (t->on == 1), "plan, estimates and service are the numbers'");
     for (uint32_t i = 0; i < 18; i++) {
+        static const prepay_figures zeros;
         uint32_t month = i < 16 ? i : i == 16 ? UINT32_MAX : any_number();
-        prepay_summary_figures s = prepay_summary(a, month);
-        expect(none ? s.code == 1 : s.code == 0 || s.code == 3 || s.code == 1,
-               "1 for every month of no account; else a month's code is 0 or 3, or 1 for sums that no account has");
-        expect(s.code == 0 || empty_figures(s), "the figures of a refused month are 0");
-        expect(none || month <= 14 || s.code == 3, "a month past 14 is refused");
+        prepay_figures f = prepay_summary(a, month);
+        uint64_t code = f.code;
+        expect(!account ? code == 1 : month > 14 ? code == 3 : code == 0 || code == 3 || code == 1, "a month's code");
+        f.code = 0;
+        expect(code == 0 || memcmp(&f, &zeros, sizeof f) == 0, "the figures of a refused month are 0");
     }
-    expect(same_account(a, &was), "reading leaves the bytes as they are");
+    expect(memcmp(a, &was, sizeof was) == 0, "reading leaves the numbers as they are");
 
     for (uint32_t sort = 0; sort <= 13; sort++) {
         prepay_event e = any_event(sort <= 12 ? sort : (uint32_t)next());
-        prepay_answer answer = prepay_post(a, e);
-        expect(none ? answer.code == 1 : answer.code <= 14, "1 for every event of no account");
+        account = is_account();
+        prepay_answer answer = prepay_post(a, &e);
+        expect(may_be(answer.code, account, e.sort), "an event's code");
         expect(answer.code == 0 || answer.value == 0, "a refusal has the value 0");
-        if (answer.code != 0) {
-            expect(same_account(a, &was), "a refused event leaves the bytes as they are");
-            events_refused++;
-        } else {
-            memcpy(&was, a, sizeof was);
-            events_accepted++;
-        }
+        expect(answer.code == 0 || memcmp(a, &was, sizeof was) == 0, "a refused event changes no byte");
+        *(answer.code == 0 ? &accepted : &refused) += 1;
+        was = *a;
     }
 
     /* A row that ends at a closed page, its code bytes likewise. */
-    size_t count = below((uint32_t)most + 1);
-    prepay_event *from = row + (most - count);
-    uint8_t *to = codes + (most - count);
+    size_t count = below(MOST + 1);
+    prepay_event *from = row + (MOST - count);
+    uint8_t *to = codes + (MOST - count);
     for (size_t i = 0; i < count; i++)
         from[i] = any_event(below(14));
-    if (count > 0) {
-        memset(codes, 0xEE, most);
-        expect(prepay_row(a, from, count, to, below((uint32_t)count)) == 16, "a short buffer is 16");
-        expect(same_account(a, &was), "a short buffer leaves the bytes as they are");
-        for (size_t i = 0; i < most; i++)
-            expect(codes[i] == 0xEE, "a short buffer is not written");
-    }
-    memset(codes, 0xEE, most);
-    expect(prepay_row(a, from, count, to, count) == 0, "a row that fits is 0");
-    int accepted = 0;
-    for (size_t i = 0; i < count; i++) {
-        expect(none ? to[i] == 1 : to[i] <= 14, "1 for every event of no account's row");
-        accepted |= to[i] == 0;
-    }
-    for (uint8_t *p = codes; p < to; p++)
-        expect(*p == 0xEE, "prepay_row writes the row's bytes alone");
-    expect(accepted || same_account(a, &was), "a row of refusals leaves the bytes as they are");
-
-    /* What is an account stays one. */
-    if (!none)
-        expect(prepay_post(a, (prepay_event){.sort = PREPAY_WARN}).code != 1, "an account stays an account");
+    memset(codes, 0xEE, MOST);
+    if (count > 0)
+        expect(prepay_row(a, from, count, to, below((uint32_t)count)) == PREPAY_SHORT_BUFFER, "a short buffer is 16");
+    expect(memcmp(a, &was, sizeof was) == 0, "a short buffer leaves the numbers as they are");
+    for (size_t i = 0; i < MOST; i++)
+        expect(codes[i] == 0xEE, "a short buffer is not written");
+    account = is_account();
+    expect(prepay_row(a, from, count, to, count) == PREPAY_OK, "a row that fits is 0");
+    int any = 0;
+    for (size_t i = 0; i < MOST; i++)
+        if (codes + i < to)
+            expect(codes[i] == 0xEE, "prepay_row writes the row's bytes alone");
+        else
+            any |= codes[i] == 0, expect(account || codes[i] == PREPAY_NO_ACCOUNT, "1 for every event of no account's row");
+    expect(any || memcmp(a, &was, sizeof was) == 0, "a row of refusals changes no byte");
 }
 
+static const prepay_terms terms = {.year = 2024, .month = 1, .day = 1, .price = 1250, .connect = 5000, .cutoff = 1000, .share = 50};
+
 /* A good account with a history. */
-static void good(prepay_account *a) {
+static void good(void) {
     static const prepay_event history[] = {
         {.sort = PREPAY_PAY, .amount = 6000},
         {.sort = PREPAY_CONNECT},
@@ -169,82 +168,129 @@ static void good(prepay_account *a) {
         {.sort = PREPAY_MARK, .day = 3, .kind = 2, .from = 5, .to = 6},
         {.sort = PREPAY_WARN, .day = 3},
     };
-    uint8_t codes[sizeof history / sizeof history[0]];
-    prepay_terms terms = {.year = 2024, .month = 1, .day = 1, .price = 1250, .connect = 5000, .cutoff = 1000, .share = 50};
-    expect(prepay_open(a, terms) == 0, "the terms are good");
-    expect(prepay_row(a, history, sizeof codes, codes, sizeof codes) == 0, "the history fits");
-    for (size_t i = 0; i < sizeof codes; i++)
-        expect(codes[i] == 0, "the history is accepted");
+    expect(prepay_open(a, &terms) == PREPAY_OK, "the terms are good");
+    for (size_t i = 0; i < sizeof history / sizeof history[0]; i++)
+        expect(prepay_post(a, &history[i]).code == PREPAY_OK, "the history is accepted");
 }
 
-static void one_seed(uint64_t seed, prepay_account *a, prepay_event *row, uint8_t *codes, size_t most) {
-    static prepay_account base;
-    memset(&base, 0, sizeof base);
-    good(&base);
-    state = seed;
-
-    /* Random bytes, one byte all over, refused terms. */
-    for (int i = 0; i < 200; i++) {
+static void strange_accounts(void) {
+    good();
+    const prepay_account base = *a;
+    /* Random bytes; random bytes but for the terms and what else tells an account; one byte all over. */
+    for (int i = 0; i < 400; i++) {
         fill(a, sizeof *a);
-        feed(a, 1, row, codes, most);
+        if (i % 2) {
+            prepay_totals *t = &a->totals;
+            a->terms = base.terms;
+            t->count %= PREPAY_MAX_PAYMENTS + 1;
+            t->credit &= MAX_TOTAL - 1, t->debit &= MAX_TOTAL - 1, t->plan &= MAX_TOTAL - 1, t->standing &= MAX_TOTAL - 1;
+        }
+        feed();
     }
     for (int byte = 0; byte < 256; byte++) {
         memset(a, byte, sizeof *a);
-        feed(a, 1, row, codes, most);
+        feed();
     }
-    for (int i = 0; i < 50; i++) {
+    /* Terms of any numbers: opened if within their limits, else every byte stays. */
+    for (int i = 0; i < 200; i++) {
+        union {
+            prepay_terms terms;
+            uint32_t numbers[7];
+        } t = {terms};
         fill(a, sizeof *a);
-        prepay_terms t = {.year = any_number(), .month = any_number(), .day = any_number(), .price = any_number(),
-                          .connect = any_number(), .cutoff = any_number(), .share = 51 + any_number() / 2};
-        expect(prepay_open(a, t) == 1, "refused terms are 1");
-        feed(a, 1, row, codes, most);
+        const prepay_account was = *a;
+        t.numbers[below(7)] = any_number();
+        uint8_t code = prepay_open(a, &t.terms);
+        expect(code == !within_limits(&t.terms), "terms outside their limits are 1, others 0");
+        expect(code ? memcmp(a, &was, sizeof was) == 0 : is_account(), "refused terms change no byte");
+        feed();
     }
     /* A good account with random bytes from some place on, up to some place, or a piece of them. */
     for (int i = 0; i < 300; i++) {
         size_t from = below((uint32_t)sizeof *a), to = from + 1 + below((uint32_t)(sizeof *a - from));
-        if (i % 3 == 0)
-            from = 0;
-        if (i % 3 == 1)
-            to = sizeof *a;
-        memcpy(a, &base, sizeof *a);
-        fill((uint8_t *)a + from, to - from);
-        feed(a, 0, row, codes, most);
+        *a = base;
+        fill((uint8_t *)a + (i % 3 == 0 ? 0 : from), (i % 3 == 1 ? sizeof *a : to) - (i % 3 == 0 ? 0 : from));
+        feed();
     }
-    /* A good account with one number of four or eight bytes replaced, in the places of totals, terms and first days and payments more. */
+    /* A good account with one number replaced, by width in turn, totals and terms more; wide ones at 2^60 and above it. */
     for (int i = 0; i < 3000; i++) {
-        size_t places[] = {sizeof(prepay_totals) + sizeof(prepay_terms), offsetof(prepay_account, marks), sizeof *a};
-        size_t at = below((uint32_t)places[below(3)] / 4) * 4;
-        uint32_t n = any_number();
-        memcpy(a, &base, sizeof *a);
-        memcpy((uint8_t *)a + at, &n, 4);
-        if (below(4) == 0 && at + 8 <= sizeof *a) {
-            n = any_number();
-            memcpy((uint8_t *)a + at + 4, &n, 4);
-        }
-        feed(a, 0, row, codes, most);
+        *a = base;
+        uint8_t *bytes = (uint8_t *)a;
+        enum { WIDE = offsetof(prepay_account, terms) / 8, NARROW = (offsetof(prepay_account, marks) - offsetof(prepay_account, terms)) / 4 };
+        uint64_t wide = below(2) ? MAX_TOTAL + below(2) : (uint64_t)any_number() << (below(2) * 32);
+        uint32_t narrow = any_number();
+        if (i % 3 == 0)
+            memcpy(bytes + 8 * below(below(2) ? 4 : WIDE), &wide, sizeof wide);
+        else if (i % 3 == 1)
+            memcpy(bytes + (below(4) ? offsetof(prepay_account, terms) + 4 * below(below(2) ? 40 : NARROW) : 32 + 4 * below(4)), &narrow,
+                   sizeof narrow);
+        else
+            (below(2) ? a->marks : a->warned)[below(PREPAY_DAYS)] = (uint8_t)next();
+        feed();
     }
     /* One bit at a time. */
     for (int i = 0; i < 3000; i++) {
         size_t bit = below((uint32_t)sizeof *a * 8);
-        memcpy(a, &base, sizeof *a);
+        *a = base;
         ((uint8_t *)a)[bit / 8] ^= (uint8_t)(1u << (bit % 8));
-        feed(a, 0, row, codes, most);
+        feed();
+    }
+}
+
+/* ---- texts and readers */
+
+static void strange_readers(prepay_reader *reader, prepay_terms *read_terms, prepay_event *event) {
+    static const char base[] = "open=2024-01-01\nprice=1250\nconnect=5000\ncutoff=1000\nshare=50\nday=0\ndo=pay\namount=6000\n"
+                               "day=3\ndo=mark\nkind=1\nfrom=4\nto=5\nday=4\ndo=estimate\nusage=1\nwh=30000\nday=4\ndo=warn\n";
+    enum { LENGTH = sizeof base - 1 };
+    uint8_t *text = fenced(LENGTH, 1);
+    for (int i = 0; i < 3000; i++) {
+        /* A text cut off, or with wrong bytes, that ends at a closed page. */
+        size_t length = i % 2 ? LENGTH : below(LENGTH + 1);
+        uint8_t *from = text + (LENGTH - length);
+        memcpy(from, base, length);
+        for (uint32_t k = below(3); length > 0 && k > 0; k--)
+            from[below((uint32_t)length)] = below(2) ? (uint8_t)next() : (uint8_t)"\n=0-9"[below(5)];
+        fill(read_terms, sizeof *read_terms);
+        const prepay_terms terms_were = *read_terms;
+        uint8_t code = prepay_read_terms(from, length, reader, read_terms);
+        expect(reader->code == code && (code == PREPAY_OK || (code == PREPAY_BAD_TEXT && reader->place == 0)), "the reader after the terms");
+        expect(code == PREPAY_OK || memcmp(read_terms, &terms_were, sizeof terms_were) == 0, "malformed terms are left as they were");
+        /* To its end; then from any place with any code. */
+        for (int step = 0; step < 12; step++) {
+            if (step >= 6)
+                *reader = (prepay_reader){below(3) ? below(LENGTH + 3) : any_number(), below(2) ? 0 : any_number()};
+            const prepay_reader was = *reader;
+            fill(event, sizeof *event);
+            const prepay_event event_was = *event;
+            code = prepay_read_event(from, length, reader, event);
+            readings++;
+            if (was.code != 0)
+                expect(code == (was.code == PREPAY_END ? PREPAY_END : PREPAY_BAD_TEXT) && reader->place == was.place && reader->code == was.code,
+                       "a reader that holds a code answers the end or 15, and stays");
+            else if (code == PREPAY_OK)
+                expect(was.place < reader->place && reader->place <= length && reader->code == 0 && event->sort >= 1 && event->sort <= 11,
+                       "an event was read");
+            else
+                expect(code == (was.place == length ? PREPAY_END : PREPAY_BAD_TEXT) && reader->place == was.place && reader->code == code,
+                       "the end or 15, and the reader holds it");
+            expect(code == PREPAY_OK || memcmp(event, &event_was, sizeof event_was) == 0, "the event is left as it was");
+        }
     }
 }
 
 int main(int argc, char **argv) {
-    enum { MOST = 40 };
     for (int i = 1; i < argc; i++) {
-        uint64_t seed = strtoull(argv[i], NULL, 10);
         for (int at_end = 0; at_end <= 1; at_end++) {
-            prepay_account *a = (prepay_account *)fenced(sizeof(prepay_account), at_end);
-            /* The rows end at a closed page, and so do their code bytes. */
-            prepay_event *row = (prepay_event *)fenced(MOST * sizeof(prepay_event), 1);
-            one_seed(seed * 2 + (uint64_t)at_end, a, row, fenced(MOST, 1), MOST);
+            state = strtoull(argv[i], NULL, 10) * 2 + (uint64_t)at_end;
+            a = fenced(sizeof *a, at_end);
+            row = fenced(MOST * sizeof *row, 1);
+            codes = fenced(MOST, 1);
+            strange_accounts();
+            strange_readers(fenced(sizeof(prepay_reader), at_end), fenced(sizeof(prepay_terms), at_end), fenced(sizeof(prepay_event), at_end));
         }
-        printf("seed %" PRIu64 ": no account %lu times, an account %lu times; events refused %lu, accepted %lu\n",
-               seed, no_accounts, accounts, events_refused, events_accepted);
     }
-    printf("strange bytes: %s\n", wrong ? "WRONG" : "answered, and left as they are");
+    printf("strange memory: an account %lu times, none %lu times; events accepted %lu, refused %lu; events read %lu: %s\n", accounts,
+           no_accounts, accepted, refused, readings, wrong ? "WRONG" : "as head.h has it");
     return wrong != 0;
 }

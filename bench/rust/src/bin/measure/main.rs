@@ -1,19 +1,18 @@
 //! Times the Rattle head (libhead.a) and the fast Rust account on the same inputs, in one process. See bench/run.sh.
 //!
-//! measure times [samples]            the tables (a), (b), (c in one process), (d)
+//! measure times [samples]            the tables (a), (b), (c) in one process, (d), and the ratios that decide
 //! measure text [LIMIT]               the event text of the measurements, on standard output
 //! measure row                        the row of the measurements, as numbers (for stack.c)
 
-mod head;
 mod sorts;
 
 use fast::account::*;
+use fast::head;
 use fast::mix;
 use std::hint::black_box;
-use std::time::Instant;
 
-/// The Rattle record behind the calls, as it stands in the disassembly of libhead.a: 80 bytes of terms and totals, 8,248 of arrays.
-const RECORD: usize = 8_328;
+/// The bytes of the account in C; the Rattle record has as many.
+const RECORD: usize = head::ACCOUNT_SIZE;
 const ROW: usize = 4_096;
 const SEED: u64 = 1;
 
@@ -84,14 +83,19 @@ fn time(f: impl FnOnce()) -> f64 {
     clock() - start
 }
 
+/// A fresh account of C's.
+fn opened(terms: &Terms) -> head::Account {
+    let mut account = head::Account::filled(0);
+    assert_eq!(head::open(&mut account, terms), 0);
+    account
+}
+
 /// A row on a fresh account, by each side.
-fn head_row<'a>(fresh: &'a head::Image, row: &'a [Event]) -> Box<dyn FnMut() -> f64 + 'a> {
+fn head_row<'a>(fresh: &'a head::Account, row: &'a [Event]) -> Box<dyn FnMut() -> f64 + 'a> {
     let mut codes = vec![0; row.len()];
     Box::new(move || {
         let mut account = Box::new(*fresh);
-        time(|| {
-            black_box(account.row(black_box(row), &mut codes));
-        })
+        time(|| _ = black_box(head::row(&mut account, black_box(row), &mut codes)))
     })
 }
 
@@ -99,44 +103,46 @@ fn fast_row<'a>(fresh: &'a Account, row: &'a [Event]) -> Box<dyn FnMut() -> f64 
     let mut codes = vec![0; row.len()];
     Box::new(move || {
         let mut account = Box::new(*fresh);
-        time(|| {
-            black_box(account.row(black_box(row), &mut codes));
-        })
+        time(|| _ = black_box(account.row(black_box(row), &mut codes)))
     })
 }
 
 /// Both sides answer alike; the codes.
 fn agreed(terms: &Terms, row: &[Event]) -> Vec<u8> {
-    let mut image = head::open(terms);
+    let mut lent = opened(terms);
     let mut account = Account::open(terms).unwrap();
     let mut codes = vec![0; row.len()];
     for (e, code) in row.iter().zip(&mut codes) {
-        let (a, b) = (image.post(e), account.post(e));
-        assert_eq!((a.code, a.value), (b.code, b.value), "{e:?}");
-        *code = a.code;
+        let (a, b) = (head::post(&mut lent, e), account.post(e));
+        assert_eq!((a.code, a.value), (b.code as u64, b.value), "{e:?}");
+        *code = b.code;
     }
-    let r = image.readings();
+    let r = head::readings(&lent);
     assert_eq!((r.balance, r.settled, r.plan, r.estimates), (account.balance(), account.settled(), account.plan(), account.estimates()));
+    for month in 0..=15 {
+        let (a, b) = (head::summary(&lent, month), account.summary(month));
+        assert_eq!((a.code, a.kept_sum, a.reversed_sum, a.average), (b.code as u64, b.kept.1, b.reversed.1, b.average));
+    }
     let (mut a, mut b) = (vec![0; row.len()], vec![0; row.len()]);
-    assert_eq!(head::open(terms).row(row, &mut a), 0);
+    assert_eq!(head::row(&mut opened(terms), row, &mut a), 0);
     assert_eq!(Account::open(terms).unwrap().row(row, &mut b), 0);
     assert!(a == codes && b == codes);
     codes
 }
 
-/// Memory for the floor: two records at chosen places.
+/// Memory for the copy: two accounts at chosen places.
 #[repr(align(4096))]
 struct Pages([u8; 65_536]);
 
-/// Where the two records of the floor lie.
+/// Where the two accounts lie.
 const PLACES: [(&str, usize, usize); 3] = [
     ("both at a page's start", 0, 12_288),
     ("side by side", 16, 16 + RECORD),
     ("10,000 apart", 8, 10_008),
 ];
 
-/// Copies a record to another place and back, 200 times; nanoseconds for one there and back.
-fn floor(pages: &mut Pages, from: usize, to: usize) -> f64 {
+/// Nanoseconds to copy an account to another place.
+fn copy(pages: &mut Pages, from: usize, to: usize) -> f64 {
     assert!(from + RECORD <= to && to + RECORD <= pages.0.len());
     let base = pages.0.as_mut_ptr();
     let t = time(|| {
@@ -147,7 +153,7 @@ fn floor(pages: &mut Pages, from: usize, to: usize) -> f64 {
             }
         }
     });
-    t / 200.0
+    t / 400.0
 }
 
 fn names() -> [&'static str; 12] {
@@ -169,65 +175,48 @@ fn tell_mix(what: &str, row: &[Event], codes: &[u8]) {
     println!();
 }
 
-fn one_post(samples: usize, row: &[Event]) {
-    let fresh = head::open(&mix::TERMS);
+/// What decides: a ratio and what it should be.
+type Aims = Vec<(&'static str, f64, &'static str)>;
+
+fn one_post(samples: usize, row: &[Event], aims: &mut Aims) {
+    let fresh = opened(&mix::TERMS);
     let fast = Account::open(&mix::TERMS).unwrap();
-    let (m, n) = (ROW / 4, ROW);
-    let mut singly = Box::new(fresh);
-    let mut copied = Box::new(fast);
-    let mut late = Box::new(fresh);
-    late.row(row, &mut vec![0; ROW]);
+    let (mut singly, mut fast_singly) = (Box::new(fresh), Box::new(fast));
     let mut pages: Vec<Box<Pages>> = PLACES.iter().map(|_| Box::new(Pages([1; 65_536]))).collect();
     let mut tasks: Vec<Box<dyn FnMut() -> f64>> = vec![
-        head_row(&fresh, &row[..m]),
-        head_row(&fresh, &row[..n]),
-        fast_row(&fast, &row[..m]),
-        fast_row(&fast, &row[..n]),
         Box::new(|| {
             *singly = fresh;
-            time(|| {
-                for e in row {
-                    black_box(singly.post(black_box(e)));
-                }
-            }) / ROW as f64
+            time(|| row.iter().for_each(|e| _ = black_box(head::post(&mut singly, black_box(e)))))
         }),
         Box::new(|| {
-            *copied = fast;
-            time(|| {
-                for e in row {
-                    black_box(copied.post_by_copy(black_box(e)));
-                }
-            }) / ROW as f64
+            *fast_singly = fast;
+            time(|| row.iter().for_each(|e| _ = black_box(fast_singly.post(black_box(e)))))
         }),
-        Box::new(|| {
-            time(|| {
-                for _ in 0..100 {
-                    black_box(late.row(black_box(&[]), &mut []));
-                }
-            }) / 100.0
-        }),
+        head_row(&fresh, row),
+        fast_row(&fast, row),
     ];
     for (pages, &(_, from, to)) in pages.iter_mut().zip(&PLACES) {
-        tasks.push(Box::new(move || floor(pages, from, to)));
+        tasks.push(Box::new(move || copy(pages, from, to)));
     }
-    let times = in_turn(samples, &mut tasks);
-    let native = difference(&times[1], &times[0], n - m);
-    let rust = difference(&times[3], &times[2], n - m);
-    let (single, copying, empty, floors) = (&times[4], &times[5], &times[6], &times[7..]);
-    let least = floors.iter().min_by(|a, b| median(a.to_vec()).total_cmp(&median(b.to_vec()))).unwrap();
+    let mut times = in_turn(samples, &mut tasks);
+    times[..4].iter_mut().flatten().for_each(|t| *t /= ROW as f64);
+    let copies = &times[4..];
+    let least = copies.iter().min_by(|a, b| median(a.to_vec()).total_cmp(&median(b.to_vec()))).unwrap();
     println!("\n## (a) One post, of the mix\n");
-    println!("| | ns, median | lowest tenth | to the floor |\n|---|---|---|---|");
-    let tell = |name: &str, v: &[f64]| println!("| {name} | {} | {:.2} |", both(v), ratio(v, least));
-    for ((place, ..), t) in PLACES.iter().zip(floors) {
-        tell(&format!("floor: {RECORD} bytes there and back, {place}"), t);
+    println!("| | ns, median | lowest tenth | to the copy | to Rust |\n|---|---|---|---|---|");
+    let tell = |name: &str, v: &[f64], rust: &[f64]| println!("| {name} | {} | {:.2} | {:.2} |", both(v), ratio(v, least), ratio(v, rust));
+    tell("prepay_post", &times[0], &times[1]);
+    tell("Rust post in place", &times[1], &times[1]);
+    tell(&format!("prepay_row of {ROW}, an event"), &times[2], &times[3]);
+    tell("Rust row, an event", &times[3], &times[3]);
+    for ((place, ..), t) in PLACES.iter().zip(copies) {
+        tell(&format!("bare copy of {RECORD} bytes, {place}"), t, &times[1]);
     }
-    tell(&format!("Rattle post over the record: (row of {n} less row of {m}) / {}", n - m), &native);
-    tell("Rust post in place, by the same rows", &rust);
-    tell("Rust post in the same form: copy, post, store", copying);
-    tell("prepay_post over the image in C memory", single);
-    tell("of it the conversion: less the post over the record", &difference(single, &native, 1));
-    tell("prepay_row of no events, conversion alone", empty);
-    println!("\nRattle post to the lowest floor: {:.2} (aim: at most 2). Rattle post to Rust post: {:.1}.", ratio(&native, least), ratio(&native, &rust));
+    aims.extend([
+        ("prepay_post to Rust's post in place", ratio(&times[0], &times[1]), "at most 4"),
+        ("prepay_post to the lowest bare copy, one way", ratio(&times[0], least), "below 1"),
+        ("an event of prepay_row to prepay_post", ratio(&times[2], &times[0]), "at most 1"),
+    ]);
 
     println!("\nBy sort: (row with the timed events less row without them) / timed events\n");
     println!("| events timed | Rattle ns, median | lowest tenth | Rust ns, median | lowest tenth | ratio |\n|---|---|---|---|---|---|");
@@ -236,7 +225,7 @@ fn one_post(samples: usize, row: &[Event]) {
         let codes = agreed(&case.terms, &whole);
         assert!(codes[..case.before.len()].iter().all(|&c| c == 0), "{}", case.name);
         assert!(codes[case.before.len()..].iter().all(|&c| c == case.code), "{}", case.name);
-        let fresh = head::open(&case.terms);
+        let fresh = opened(&case.terms);
         let fast = Account::open(&case.terms).unwrap();
         let mut tasks = vec![
             head_row(&fresh, &case.before),
@@ -251,49 +240,103 @@ fn one_post(samples: usize, row: &[Event]) {
     }
 }
 
-fn whole_row(samples: usize, row: &[Event]) {
-    let fresh = head::open(&mix::TERMS);
-    let fast = Account::open(&mix::TERMS).unwrap();
-    let times = in_turn(samples, &mut [head_row(&fresh, row), fast_row(&fast, row)]);
-    println!("\n## (b) A row of {ROW} events on a fresh account\n");
-    println!("| | us, median | lowest tenth | ns an event |\n|---|---|---|---|");
-    for (name, t) in [("prepay_row", &times[0]), ("Rust row", &times[1])] {
-        let t: Vec<f64> = t.iter().map(|t| t / 1e3).collect();
-        println!("| {name} | {} | {:.1} |", both(&t), median(t.clone()) * 1e3 / ROW as f64);
+fn other_calls(samples: usize, row: &[Event]) {
+    const TIMES: u32 = 140;
+    let (mut lent, mut account) = (Box::new(opened(&mix::TERMS)), Box::new(Account::open(&mix::TERMS).unwrap()));
+    let (mut lent_fresh, mut fresh) = (lent.clone(), account.clone());
+    let mut codes = vec![0; row.len()];
+    assert_eq!((head::row(&mut lent, row, &mut codes), account.row(row, &mut codes)), (0, 0));
+    let (lent, account, terms) = (&*lent, &*account, &mix::TERMS);
+    let mut tasks: Vec<Box<dyn FnMut() -> f64>> = vec![
+        Box::new(|| time(|| (0..TIMES).for_each(|_| _ = black_box(head::open(&mut lent_fresh, black_box(terms)))))),
+        Box::new(|| time(|| (0..TIMES).for_each(|_| *fresh = Account::open(black_box(terms)).unwrap()))),
+        Box::new(|| time(|| (0..TIMES).for_each(|_| _ = black_box(head::readings(black_box(lent)))))),
+        Box::new(|| {
+            time(|| {
+                (0..TIMES).for_each(|_| {
+                    let a = black_box(account);
+                    black_box((a.balance(), a.settled(), a.plan(), a.estimates(), a.service()));
+                })
+            })
+        }),
+        Box::new(|| time(|| (0..TIMES).for_each(|i| _ = black_box(head::summary(black_box(lent), i % 14))))),
+        Box::new(|| time(|| (0..TIMES).for_each(|i| _ = black_box(black_box(account).summary(i % 14))))),
+    ];
+    let mut times = in_turn(samples, &mut tasks);
+    times.iter_mut().flatten().for_each(|t| *t /= TIMES as f64);
+    println!("\n## (b) The other calls, after the row\n");
+    println!("| | ns, median | lowest tenth | Rust ns, median | lowest tenth | ratio |\n|---|---|---|---|---|---|");
+    for (name, t) in ["prepay_open", "prepay_readings", "prepay_summary, months 0 to 13"].iter().zip(times.chunks(2)) {
+        println!("| {name} | {} | {} | {:.2} |", both(&t[0]), both(&t[1]), ratio(&t[0], &t[1]));
     }
-    println!("\nRatio {:.1}.", ratio(&times[0], &times[1]));
 }
 
-fn transcripts(samples: usize) {
-    let (text, events) = mix::text(SEED, &mix::TERMS, head::TEXT_MOST);
+/// Reads a text event by event, and does something with each.
+fn by_events(text: &[u8], mut each: impl FnMut(&Event)) {
+    let (mut reader, mut terms, mut event) = Default::default();
+    assert_eq!(head::read_terms(text, &mut reader, &mut terms), 0);
+    while head::read_event(text, &mut reader, &mut event) == 0 {
+        each(&event);
+    }
+    assert_eq!(reader.code, head::END as u32);
+}
+
+/// Reads and posts a text event by event, as firmware does; the answers' codes added up.
+fn posted(text: &[u8], account: &mut head::Account) -> u64 {
+    let mut codes = 0;
+    assert_eq!(head::open(account, &mix::TERMS), 0);
+    by_events(text, |event| codes += head::post(account, event).code);
+    codes
+}
+
+fn transcripts(samples: usize, aims: &mut Aims) {
+    let (text, events) = mix::text(SEED, &mix::TERMS, head::MAX_TEXT);
     let (mut a, mut b) = (vec![0; head::TRANSCRIPT_ROOM], vec![0; head::TRANSCRIPT_ROOM]);
+    let mut account = Box::new(head::Account::filled(0));
     let len = head::transcript(&text, &mut a);
     assert_eq!(len, fast::text::transcript(&text, &mut b));
     assert!(a[..len] == b[..len]);
+    let codes = agreed(&mix::TERMS, &events);
+    let sum = codes.iter().map(|&c| c as u64).sum::<u64>();
+    let terms_alone = &text[..text.windows(4).position(|w| w == b"day=").unwrap()];
+    let mut out = vec![0; head::STATEMENT_ROOM];
+    let mut statement = |text: &[u8]| time(|| _ = black_box(head::statement(black_box(text), &mut out)));
+    let mut pages = Box::new(Pages([1; 65_536]));
     let mut tasks: Vec<Box<dyn FnMut() -> f64>> = vec![
         Box::new(|| time(|| assert_eq!(len, head::transcript(black_box(&text), &mut a)))),
         Box::new(|| time(|| assert_eq!(len, fast::text::transcript(black_box(&text), &mut b)))),
+        Box::new(|| time(|| assert_eq!(sum, posted(black_box(&text), &mut account)))),
+        Box::new(|| time(|| by_events(black_box(&text), |e| _ = black_box(e)))),
+        Box::new(|| statement(&text) - statement(terms_alone)),
+        Box::new(|| PLACES.iter().map(|&(_, from, to)| copy(&mut pages, from, to)).fold(f64::MAX, f64::min)),
     ];
     let times = in_turn(samples, &mut tasks);
     println!("\n## (c) In one process: a text of {} bytes, {} events, to {len} bytes\n", text.len(), events.len());
-    tell_mix("The mix, text", &events, &agreed(&mix::TERMS, &events));
+    tell_mix("The mix, text", &events, &codes);
     println!();
     println!("| | us, median | lowest tenth | ns an event | ns a byte |\n|---|---|---|---|---|");
-    for (name, t) in [("prepay_transcript", &times[0]), ("Rust transcript", &times[1])] {
+    let names = [
+        "prepay_transcript",
+        "Rust transcript",
+        "prepay_read_event and prepay_post, event by event, nothing printed",
+        "prepay_read_event alone",
+        "prepay_statement, less that of the terms alone",
+    ];
+    for (name, t) in names.iter().zip(&times) {
         let t: Vec<f64> = t.iter().map(|t| t / 1e3).collect();
         let m = median(t.clone()) * 1e3;
         println!("| {name} | {} | {:.1} | {:.2} |", both(&t), m / events.len() as f64, m / text.len() as f64);
     }
-    println!("\nRatio {:.1}.", ratio(&times[0], &times[1]));
-}
-
-fn tsc() -> u64 {
-    unsafe {
-        std::arch::x86_64::_mm_lfence();
-        let t = std::arch::x86_64::_rdtsc();
-        std::arch::x86_64::_mm_lfence();
-        t
-    }
+    let by_value = difference(&times[4], &times[3], events.len());
+    let floor: Vec<f64> = times[5].iter().map(|t| 2.0 * t).collect();
+    println!(
+        "\nRatio of the transcripts {:.1}. A post by value, of prepay_statement, which posts so, less the reading: ns {}; the floor, the lowest \
+         bare copy there and back: {}.",
+        ratio(&times[0], &times[1]),
+        both(&by_value),
+        both(&floor)
+    );
+    aims.push(("a post by value to the floor, the bare copy there and back", ratio(&by_value, &floor), "at most 2"));
 }
 
 /// Least, median, greatest, and the slope of the least squares line through (i, v[i]).
@@ -308,81 +351,80 @@ fn spread(v: &[f64]) -> (f64, f64, f64, f64) {
     (v.iter().copied().fold(f64::MAX, f64::min), median(v.to_vec()), v.iter().copied().fold(0.0, f64::max), xy / xx)
 }
 
-fn kth_event(samples: usize, mixed: &[Event]) {
+/// The credit that is the first event, or the 4,096th, which is the last that is accepted: posted anew to the totals before it.
+fn credit_after(count: usize, mixed: &[Event]) -> Box<dyn FnMut() -> f64> {
+    const TIMES: usize = 1_000;
+    let credit = Event { sort: CREDIT, day: 399, amount: 100, ..Event::default() };
+    let mut account = Box::new(opened(&mix::TERMS));
+    for e in mixed.iter().chain(std::iter::repeat(&credit)) {
+        if account.totals.events as usize == count {
+            break;
+        }
+        head::post(&mut account, e);
+    }
+    let before = account.totals;
+    Box::new(move || {
+        time(|| {
+            for _ in 0..TIMES {
+                account.totals = black_box(before);
+                assert_eq!(black_box(head::post(&mut account, black_box(&credit))).code, 0);
+            }
+        }) / TIMES as f64
+    })
+}
+
+fn kth_event(samples: usize, mixed: &[Event], aims: &mut Aims) {
     const BUCKET: usize = 256;
     let credits = vec![Event { sort: CREDIT, day: 3, amount: 100, ..Event::default() }; ROW];
-    let fresh = head::open(&mix::TERMS);
-    let fast = Account::open(&mix::TERMS).unwrap();
-    println!("\n## (d) The k-th event, k from 1 to {ROW}: {} buckets of {BUCKET}\n", ROW / BUCKET);
-    println!(
-        "Rows: an account is posted {ROW} events in rows of {BUCKET}, each row timed, less an empty row just before it. Single: each event timed \
-         by rdtsc (some 20 ns of its own are in it), the median of the runs for each k, then of the bucket.\n"
-    );
+    let (fresh, fast) = (opened(&mix::TERMS), Account::open(&mix::TERMS).unwrap());
+    println!("\n## (d) The k-th event, k from 1 to {ROW}: single posts, timed {BUCKET} at a time\n");
     println!("| ns an event | least bucket | median bucket | greatest | slope, ns per 1,000 events |\n|---|---|---|---|---|");
-    let tell = |name: &str, v: &[f64]| {
-        let (least, middle, most, slope) = spread(v);
-        println!("| {name} | {least:.1} | {middle:.1} | {most:.1} | {:+.2} |", slope * 1_000.0 / BUCKET as f64);
-    };
-    let rows = [("credits", &credits[..]), ("mix", mixed)];
-    for (what, row) in rows {
+    for (what, row) in [("credits", &credits[..]), ("the mix", mixed)] {
         for rattle in [true, false] {
             let mut buckets = vec![Vec::with_capacity(samples); ROW / BUCKET];
-            let mut codes = [0; BUCKET];
             for _ in 0..samples {
-                let (mut image, mut account) = (Box::new(fresh), Box::new(fast));
+                let (mut lent, mut account) = (Box::new(fresh), Box::new(fast));
                 for (events, bucket) in row.chunks(BUCKET).zip(&mut buckets) {
-                    let (t, empty) = if rattle {
-                        let empty = time(|| _ = black_box(image.row(black_box(&[]), &mut codes)));
-                        (time(|| _ = black_box(image.row(black_box(events), &mut codes))), empty)
+                    let t = if rattle {
+                        time(|| events.iter().for_each(|e| _ = black_box(head::post(&mut lent, black_box(e)))))
                     } else {
-                        let empty = time(|| _ = black_box(account.row(black_box(&[]), &mut codes)));
-                        (time(|| _ = black_box(account.row(black_box(events), &mut codes))), empty)
+                        time(|| events.iter().for_each(|e| _ = black_box(account.post(black_box(e)))))
                     };
-                    bucket.push((t - empty) / BUCKET as f64);
+                    bucket.push(t / BUCKET as f64);
                 }
             }
             let buckets: Vec<f64> = buckets.into_iter().map(median).collect();
-            tell(&format!("{} row of {what}", if rattle { "Rattle" } else { "Rust" }), &buckets);
+            let (least, middle, most, slope) = spread(&buckets);
+            let name = if rattle { "prepay_post" } else { "Rust post" };
+            println!("| {name}, {what} | {least:.1} | {middle:.1} | {most:.1} | {:+.2} |", slope * 1_000.0 / BUCKET as f64);
         }
     }
-    let start = (Instant::now(), tsc());
-    while start.0.elapsed().as_millis() < 100 {}
-    let per_ns = (tsc() - start.1) as f64 / start.0.elapsed().as_nanos() as f64;
-    for (what, row) in rows {
-        for rattle in [true, false] {
-            let runs = (samples / 3).max(5);
-            let mut each = vec![Vec::with_capacity(runs); ROW];
-            for _ in 0..runs {
-                let (mut image, mut account) = (Box::new(fresh), Box::new(fast));
-                for (e, times) in row.iter().zip(&mut each) {
-                    let start = tsc();
-                    if rattle {
-                        black_box(image.post(black_box(e)));
-                    } else {
-                        black_box(account.post(black_box(e)));
-                    }
-                    times.push((tsc() - start) as f64 / per_ns);
-                }
-            }
-            let each: Vec<f64> = each.into_iter().map(median).collect();
-            let buckets: Vec<f64> = each.chunks(BUCKET).map(|c| median(c.to_vec())).collect();
-            let name = if rattle { "prepay_post (image)" } else { "Rust post" };
-            tell(&format!("{name}, single, {what}"), &buckets);
-        }
-    }
+    let times = in_turn(samples, &mut [credit_after(0, mixed), credit_after(ROW - 1, mixed)]);
+    println!(
+        "\nA credit as the first event and as the {ROW}th, after the mix: ns {} and {} (medians and lowest tenths; the storing of the totals \
+         before it is in both).",
+        both(&times[0]),
+        both(&times[1])
+    );
+    aims.push(("the 4,096th event to the first", ratio(&times[1], &times[0]), "1: it does not grow"));
 }
 
 fn times(samples: usize) {
+    assert_eq!(head::version() as usize, head::VERSION);
     let row = mix::row(SEED, ROW);
     let codes = agreed(&mix::TERMS, &row);
+    let mut aims = Vec::new();
     println!("{samples} runs each, both sides in turn in one process on one core; the thread's own time.\n");
     tell_mix("The mix, row", &row, &codes);
-    println!("Sizes: image (prepay_account) {} bytes, Rattle record {RECORD}, Rust record {}, event {}.",
-        head::ACCOUNT_SIZE, size_of::<Account>(), size_of::<Event>());
-    one_post(samples, &row);
-    whole_row(samples, &row);
-    transcripts(samples);
-    kth_event(samples, &row);
+    println!("Sizes: prepay_account {RECORD} bytes, the Rust record {}, an event {}.", size_of::<Account>(), size_of::<Event>());
+    one_post(samples, &row, &mut aims);
+    other_calls(samples, &row);
+    transcripts(samples, &mut aims);
+    kth_event(samples, &row, &mut aims);
+    println!("\n## The ratios that decide\n\n| | ratio | aim |\n|---|---|---|");
+    for (what, ratio, aim) in aims {
+        println!("| {what} | {ratio:.2} | {aim} |");
+    }
 }
 
 fn main() {
@@ -391,7 +433,7 @@ fn main() {
     let number = |i: usize, or: usize| args.get(i).map_or(or, |s| s.parse().expect("a number"));
     match args.get(1).map(String::as_str) {
         Some("times") => times(number(2, 101)),
-        Some("text") => std::io::stdout().write_all(&mix::text(SEED, &mix::TERMS, number(2, head::TEXT_MOST)).0).unwrap(),
+        Some("text") => std::io::stdout().write_all(&mix::text(SEED, &mix::TERMS, number(2, head::MAX_TEXT)).0).unwrap(),
         Some("row") => {
             for e in mix::row(SEED, ROW) {
                 println!("{} {} {} {} {} {} {} {} {}", e.sort, e.day, e.amount, e.number, e.kind, e.usage, e.wh, e.from, e.to);
