@@ -1,7 +1,7 @@
 // Texts: read event by event, with a reader in the caller's memory; printed whole, for hosts.
 ghost use Rattle.std.specs.Prelude.{◌≡◌};
 ghost use Rattle.reader.specs.Reader.{begun, next_of};
-ghost use Rattle.head.specs.Texts.{terms_left, event_left};
+ghost use Rattle.head.specs.Texts.{terms_left, event_left, AsPrinted};
 ghost use Rattle.transcript.specs.Transcript.{WholeTranscript};
 ghost use Rattle.statement.specs.Statement.{WholeStatement};
 
@@ -39,6 +39,11 @@ pub extern "C" fn prepay_read_event(text: &[u8], reader: &mut Reader, event: &mu
         Err(refusal) => u8::from(refusal),
     }
 }
+
+// Call after call, they give the events that are printed of the text whole.
+pub fn reads_as_printed()
+    ensures { AsPrinted }
+{}
 
 // The transcript of a text.
 #[unsafe(no_mangle)]

@@ -29,7 +29,7 @@ stopped text place (suc k) = ap (λ (l : List Answer). Err Form ∷ l) (stopped 
 
 -- ---- a reader that reads on, by what stands at its place
 
-by_read : {Z : Type 0} {A : Type 0} (x : Read A) → ((a : A) (r : List ℕ) → x ≡ got a r → Z) → (x ≡ broken → Z) → Z
+pub by_read : {Z : Type 0} {A : Type 0} (x : Read A) → ((a : A) (r : List ℕ) → x ≡ got a r → Z) → (x ≡ broken → Z) → Z
 by_read (got a r) g f = g a r refl
 by_read broken g f = f refl
 
@@ -61,12 +61,13 @@ module _ (text : List ℕ) (fits : length text ≤ 65536) where
 
 pub whole : ReadsWhole
 unfolding begun at
-whole text k = long (ltb 65536 (length text)) refl
+whole text k = by-length (ltb 65536 (length text)) refl
   where
     by-terms : length text ≤ 65536 → (x : Read Terms) → read_terms text ≡ x → answers text k (begun_by text x).reader ≡ events_after k x
     by-terms h (got t r) e = goes text h k (length text - length r) r (omega arith) (terms-rest text t r e)
     by-terms h broken e = stopped text 0 k
 
-    long : (b : Bool) → ltb 65536 (length text) ≡ b → answers text k (cond b (begun_by text broken) (begun_by text (read_terms text))).reader ≡ cond b (events_after k broken) (events_after k (read_terms text))
-    long true e = stopped text 0 k
-    long false e = by-terms (ltb-false 65536 (length text) e) (read_terms text) refl
+    by-length : (b : Bool) → ltb 65536 (length text) ≡ b
+        → answers text k (begun_by text (cond b broken (read_terms text))).reader ≡ events_after k (cond b broken (read_terms text))
+    by-length true e = stopped text 0 k
+    by-length false e = by-terms (ltb-false 65536 (length text) e) (read_terms text) refl

@@ -28,6 +28,10 @@ pub record Given (A : Type 0) : Type 0 where
 abbrev pub gives : {A : Type 0} → ℕ → ℕ → Result A Refusal → Given A
 gives place code answer = record { reader = record { place = place; code = code }; answer = answer }
 
+-- the terms of a text: one that is too long is malformed
+abbrev pub terms_in : List ℕ → Read Terms
+terms_in text = cond (ltb max_text (length text)) broken (read_terms text)
+
 -- the terms, and the reader at the first event
 abbrev pub begun_by : List ℕ → Read Terms → Given Terms
 begun_by text (got t rest) = gives (length text - length rest) reads_on (Ok t)
@@ -35,7 +39,7 @@ begun_by text broken = gives 0 malformed (Err Form)
 
 -- what `Reader::begin` gives
 unfoldable pub begun : List ℕ → Given Terms
-begun text = cond (ltb max_text (length text)) (begun_by text broken) (begun_by text (read_terms text))
+begun text = begun_by text (terms_in text)
 
 -- the event, and the reader after it; malformed, it stays where it stood
 abbrev pub next_by : List ℕ → ℕ → Read Event → Given (Option Event)
@@ -80,7 +84,7 @@ events_after k (got t rest) = events_in k rest
 events_after k broken = replicate k (Err Form)
 
 abbrev pub events_of : ℕ → List ℕ → List Answer
-events_of k text = cond (ltb max_text (length text)) (events_after k broken) (events_after k (read_terms text))
+events_of k text = events_after k (terms_in text)
 
 -- The calls over a text answer what stands in it, however many they are.
 abbrev pub ReadsWhole : Type 0
