@@ -1,4 +1,4 @@
-// A month's figures off the account record.
+// A month's figures, off an account however it is kept.
 // It uses the calendar, the ledger, the moves and the account, and in its promise the terms and the refinement: it says the figures twice, off the
 // record, and in the ledger's terms. A place is cast by `as`, since u32 has no `From` into usize.
 #![tactic(auto)]
@@ -11,7 +11,7 @@ ghost use Rattle.ledger.specs.Refusals.{average_or_0, is_average_missing, summar
 ghost use Rattle.months.specs.Summary.{payment_kept, payment_reversed, counted_by, metered_by, estimated_by, charges_of, IsSummary};
 ghost use Rattle.months.specs.Work.{max_field, span, max_averaged};
 
-use account::{Account, Payments, UsageDays};
+use account::AsAccount;
 use ledger::{CHARGE_KIND_COUNT, Counted, Figures, KindSums, Refusal, Used};
 use moves::{Charges, Usage};
 use std::ops::Range;
@@ -28,16 +28,17 @@ fn add_payment(paid: &mut Counted, amount: u32)
     paid.sum += u64::from(amount);
 }
 
-// The payments of those days that are kept, and those that are reversed. The array comes with the count: a slice `&payments[..count]` was tried,
-// and the array's length behind `&Account` is not known to the caller's proof.
-fn paid_in(payments: &Payments, count: u32, days: &Range<u32>) -> (Counted, Counted)
+// The account's first payments, so many: those of the days that are kept, and those that are reversed.
+#[tactic(auto, unfolding(crate::specs::Summary::payments_by, calendar::specs::Calendar::total))]
+fn paid_in<A: AsAccount>(a: &A, count: u32, days: &Range<u32>) -> (Counted, Counted)
     requires { count ≤ max_payments }
-    ensures kept { result.0 ≡ counted_by (span days.now) payment_kept payments.now count }
-    ensures reversed { result.1 ≡ counted_by (span days.now) payment_reversed payments.now count }
+    ensures kept { result.0 ≡ counted_by (span days.now) payment_kept (A.account a.now).payments count }
+    ensures reversed { result.1 ≡ counted_by (span days.now) payment_reversed (A.account a.now).payments count }
 {
     let mut kept = Counted::default();
     let mut reversed = Counted::default();
-    for p in &payments[..count as usize] {
+    for number in 0..count {
+        let p = a.payment(number);
         if days.contains(&p.day) {
             if p.reversed {
                 add_payment(&mut reversed, p.amount);
@@ -59,16 +60,17 @@ fn add_usage(used: &mut Used, wh: u32, cost: u32)
 }
 
 // The metered usage of those days, and the estimated.
-fn used_in(usage: &UsageDays, days: &Range<u32>) -> (Used, Used)
+#[tactic(auto, using(crate::proofs::Turns::usage_none, crate::proofs::Turns::usage_turn, crate::proofs::Turns::usage_all))]
+fn used_in<A: AsAccount>(a: &A, days: &Range<u32>) -> (Used, Used)
     requires { (days.now.start ≤ days.now.end) × (days.now.end ≤ day_count) }
-    ensures metered { result.0 ≡ metered_by (span days.now) usage.now day_count }
-    ensures estimated { result.1 ≡ estimated_by (span days.now) usage.now day_count }
+    ensures metered { result.0 ≡ metered_by (span days.now) (A.account a.now).days day_count }
+    ensures estimated { result.1 ≡ estimated_by (span days.now) (A.account a.now).days day_count }
     ensures bound { (result.0.wh + result.1.wh ≤ day_count * max_field) × (result.0.cost + result.1.cost ≤ day_count * max_field) }
 {
     let mut metered = Used::default();
     let mut estimated = Used::default();
-    for d in &usage[days.start as usize..days.end as usize] {
-        match d.usage {
+    for number in days.start..days.end {
+        match a.day(number).usage {
             Usage::Blank => {}
             Usage::Estimated { wh, cost } => add_usage(&mut estimated, wh, cost),
             Usage::Metered { wh, cost } => add_usage(&mut metered, wh, cost),
@@ -97,25 +99,27 @@ fn average(cost: u64, wh: u64) -> Option<u64>
     (cost * 100000 + wh / 2).checked_div(wh)
 }
 
-// Month m's figures, counted from the opening month. The record is refused by 1 where it is no account, then by 3 where none of the account's
-// days lies in the month, then by 1 where a sum of charges in the average is past any account's.
-pub fn summary(a: &Account, m: u32) -> Result<Figures, Refusal>
-    ensures { IsSummary a.now m (summary_record result) }
+// Month m's figures, counted from the opening month, off an account however it is kept. It is refused by 1 where it is no account, then by 3 where
+// none of its days lies in the month, then by 1 where a sum of charges in the average is past any account's.
+pub fn summary<A: AsAccount>(a: &A, m: u32) -> Result<Figures, Refusal>
+    ensures { IsSummary (A.account a.now) m (summary_record result) }
 {
-    if !moves::is_account(a.terms, a.totals) {
+    let terms = a.terms();
+    let totals = a.totals();
+    if !moves::is_account(terms, totals) {
         return Err(Refusal::Terms);
     }
-    let Some(days) = calendar::days_of(a.terms.opened, m) else {
+    let Some(days) = calendar::days_of(terms.opened, m) else {
         return Err(Refusal::Limits);
     };
-    let charges = charges_in(&a.charges, m);
+    let charges = charges_in(a.charges(), m);
     let delivery = charges[0];
     let tax = charges[1];
     if delivery > MAX_CHARGE_SUM || tax > MAX_CHARGE_SUM {
         return Err(Refusal::Terms);
     }
-    let (kept, reversed) = paid_in(&a.payments, a.totals.count, &days);
-    let (metered, estimated) = used_in(&a.days, &days);
+    let (kept, reversed) = paid_in(a, totals.count, &days);
+    let (metered, estimated) = used_in(a, &days);
     let cost = metered.cost + estimated.cost + delivery + tax;
     Ok(Figures {
         kept,

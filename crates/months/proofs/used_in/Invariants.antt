@@ -5,9 +5,12 @@ use Rattle.months.specs.Summary.{metered_by, estimated_by}
 use Rattle.months.specs.Work.{max_field, span}
 use Rattle.months.proofs.used_in.Given as goal
 
-abbrev pub invariant-loop-d : goal.invariant-loop-d
-invariant-loop-d l =
-    (l.metered ≡ metered_by (span l.days) l.usage (l.days.start + l.d-index))
-    × (l.estimated ≡ estimated_by (span l.days) l.usage (l.days.start + l.d-index))
-    × (l.metered.wh + l.estimated.wh ≤ l.d-index * max_field)
-    × (l.metered.cost + l.estimated.cost ≤ l.d-index * max_field)
+abbrev pub invariant-loop-number : goal.invariant-loop-number
+invariant-loop-number g l =
+    let days = (g.A.AsAccount.account l.a).days in
+    record {
+      metered : l.metered ≡ metered_by (span l.days) days l.number;
+      estimated : l.estimated ≡ estimated_by (span l.days) days l.number;
+      wh : l.metered.wh + l.estimated.wh ≤ l.number * max_field;
+      cost : l.metered.cost + l.estimated.cost ≤ l.number * max_field;
+    }
