@@ -8,7 +8,8 @@ use Rattle.ledger.specs.declared.Event.{Event}
 use Rattle.ledger.specs.declared.Refusal.{Refusal}
 use Rattle.ledger.specs.Refusals.{refusal_code, code_of, value_of}
 use Rattle.marks.specs.Marks.{marked}
-use Rattle.moves.specs.Moves.{Moved, cells_before, move_of}
+use Rattle.moves.specs.Moves.{Moved, cells_before, move_of, IsMove}
+use Rattle.moves.specs.declared.Move.{Move}
 use Rattle.account.specs.Record.{blank_day, no_payment, fresh}
 use Rattle.account.specs.declared.Account.{Account}
 
@@ -43,6 +44,10 @@ day_at e = e.day % day_count
 -- the arrays have 128 payments, 400 days and 75 sums of charges by their types.
 abbrev pub cells_of : Account → Event → Moved
 cells_of a e = cells_before a.totals (get_or a.payments (number_at e) no_payment) (get_or a.days (usage_at e) blank_day) a.charges a.warned e
+
+-- what `AsAccount::moved` promises of an account: the event's move over those cells, or its refusal
+abbrev pub MovesBy : Account → Event → Result Move Refusal → Type 0
+MovesBy a e r = IsMove a.terms a.totals (get_or a.payments (number_at e) no_payment) (get_or a.days (usage_at e) blank_day) a.charges a.marks a.warned e r
 
 -- the record with the cells written back
 abbrev pub with_cells : Account → Event → Moved → Account

@@ -1,10 +1,14 @@
 // What is read of an account, however it is kept.
 ghost use Rattle.std.specs.Prelude.{◌≡◌, get_or};
 ghost use Rattle.account.specs.Record.{blank_day, no_payment};
+ghost use Rattle.account.specs.Step.{MovesBy};
 ghost use Rattle.account.specs.declared.Account.{Account};
 
 use super::Account;
-use moves::{Charges, Day, Payment, Totals};
+use calendar::DAY_COUNT;
+use ledger::{Event, MAX_PAYMENTS, Refusal};
+use marks::DayBytes;
+use moves::{Cells, Charges, Day, Move, Payment, Totals};
 use terms::Terms;
 
 // An account as the record, or as numbers in C's memory.
@@ -27,6 +31,28 @@ pub trait AsAccount {
 
     fn charges(&self) -> &Charges
         ensures { result.now ≡ (account self.now).charges };
+
+    fn marks(&self) -> &DayBytes
+        ensures { result.now ≡ (account self.now).marks };
+
+    fn warned(&self) -> &DayBytes
+        ensures { result.now ≡ (account self.now).warned };
+
+    // The event's move, or its refusal.
+    fn moved(&self, e: Event) -> Result<Move, Refusal>
+        ensures { MovesBy (account self.now) e result }
+    {
+        let cells = Cells {
+            terms: self.terms(),
+            totals: self.totals(),
+            payment: self.payment(e.number % MAX_PAYMENTS),
+            day: self.day(e.usage % DAY_COUNT),
+            charges: self.charges(),
+            marks: self.marks(),
+            warned: self.warned(),
+        };
+        moves::move_of(cells, e)
+    }
 }
 
 impl AsAccount for Account {
@@ -56,5 +82,13 @@ impl AsAccount for Account {
 
     fn charges(&self) -> &Charges {
         &self.charges
+    }
+
+    fn marks(&self) -> &DayBytes {
+        &self.marks
+    }
+
+    fn warned(&self) -> &DayBytes {
+        &self.warned
     }
 }

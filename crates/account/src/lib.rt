@@ -11,7 +11,7 @@ pub use as_account::AsAccount;
 use calendar::DAY_COUNT;
 use ledger::{Event, MAX_PAYMENTS, Refusal};
 use marks::DayBytes;
-use moves::{CHARGE_PLACES, Cells, Charges, Day, Payment, Totals};
+use moves::{CHARGE_PLACES, Charges, Day, Payment, Totals};
 use terms::Terms;
 
 mod as_account;
@@ -57,21 +57,10 @@ impl Account {
     pub fn post(&mut self, e: Event) -> Result<u64, Refusal>
         ensures { stepped_of self.new result ≡ step_of self.old e }
     {
-        let number = (e.number % MAX_PAYMENTS) as usize;
-        let usage = (e.usage % DAY_COUNT) as usize;
-        let cells = Cells {
-            terms: self.terms,
-            totals: self.totals,
-            payment: self.payments[number],
-            day: self.days[usage],
-            charges: &self.charges,
-            marks: &self.marks,
-            warned: &self.warned,
-        };
-        let m = moves::move_of(cells, e)?;
+        let m = self.moved(e)?;
         self.totals = m.totals;
         self.payments[m.number as usize] = m.payment;
-        self.days[usage] = m.day;
+        self.days[(e.usage % DAY_COUNT) as usize] = m.day;
         self.charges[m.place as usize] = m.sum;
         self.warned[(e.day % DAY_COUNT) as usize] = m.warned;
         if let Some(mark) = m.mark {

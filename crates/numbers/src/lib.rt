@@ -3,15 +3,18 @@
 // refinement and the posting calls. Its promises cite specs/Numbers.antt. A place is cast by `as`, since u32 has no `From` into usize.
 #![tactic(auto)]
 
-ghost use Rattle.std.specs.Prelude.{◌≡◌};
+ghost use Rattle.std.specs.Prelude.{◌≡◌, ◌<◌};
+ghost use Rattle.ledger.specs.Rules.{max_payments};
 ghost use Rattle.ledger.specs.Refusals.{code_of, answer_record};
 ghost use Rattle.numbers.specs.Numbers.{day_in, payment_in, totals_in, account_in, day_numbers, payment_numbers, totals_numbers};
-ghost use Rattle.numbers.specs.Numbers.{NumbersComeBack, OpensIn, PostsIn, PostsRowIn};
+ghost use Rattle.moves.specs.Moves.{charge_places, accepted};
+ghost use Rattle.numbers.specs.Numbers.{NumbersComeBack, with_move, OpensIn, PostsIn, PostsRowIn};
 
 use account::AsAccount;
-use ledger::{Event, Refusal, code};
+use calendar::DAY_COUNT;
+use ledger::{Event, MAX_PAYMENTS, Refusal, code};
 use marks::DayBytes;
-use moves::{CHARGE_PLACES, Cells, Charges, Day, Payment, Totals, Usage};
+use moves::{CHARGE_PLACES, Charges, Day, Move, Payment, Totals, Usage};
 use terms::Terms;
 
 // The types below are C's: kinds, and yes and no, are numbers there, of which C may hand in any.
@@ -50,9 +53,9 @@ pub struct TotalsNumbers {
 }
 
 // (By `as`, as a constant calls no `from`.)
-const DAYS: usize = calendar::DAY_COUNT as usize;
+const DAYS: usize = DAY_COUNT as usize;
 
-const PAYMENTS: usize = ledger::MAX_PAYMENTS as usize;
+const PAYMENTS: usize = MAX_PAYMENTS as usize;
 
 // One account, the wider numbers first, so that every byte is in a field. It is no `Copy`: no call copies it.
 #[repr(C)]
@@ -196,6 +199,14 @@ impl AsAccount for Numbers {
     fn charges(&self) -> &Charges {
         &self.charges
     }
+
+    fn marks(&self) -> &DayBytes {
+        &self.marks
+    }
+
+    fn warned(&self) -> &DayBytes {
+        &self.warned
+    }
 }
 
 // The numbers of an account are read as it. The function does nothing; its promise is the theorem.
@@ -222,30 +233,28 @@ impl Numbers {
         Ok(())
     }
 
-    // One event: the cells that it may change are read, moved and written back. A refusal writes none of them.
-    pub fn post(&mut self, e: Event) -> Result<u64, Refusal>
-        ensures { PostsIn self.old e self.new (answer_record result) }
+    // The cells of a move, each in its own place.
+    #[tactic(auto, unfolding(marks::specs::Marks::marked, marks::specs::Marks::mark_range))]
+    fn write(&mut self, e: Event, m: Move)
+        requires { (m.number < max_payments) × (m.place < charge_places) }
+        ensures { self.new ≡ with_move self.old e (accepted m) }
     {
-        let number = (e.number % ledger::MAX_PAYMENTS) as usize;
-        let usage = (e.usage % calendar::DAY_COUNT) as usize;
-        let cells = Cells {
-            terms: self.terms,
-            totals: Totals::from(self.totals),
-            payment: Payment::from(self.payments[number]),
-            day: Day::from(self.days[usage]),
-            charges: &self.charges,
-            marks: &self.marks,
-            warned: &self.warned,
-        };
-        let m = moves::move_of(cells, e)?;
         self.totals = TotalsNumbers::from(m.totals);
         self.payments[m.number as usize] = PaymentNumbers::from(m.payment);
-        self.days[usage] = DayNumbers::from(m.day);
+        self.days[(e.usage % DAY_COUNT) as usize] = DayNumbers::from(m.day);
         self.charges[m.place as usize] = m.sum;
-        self.warned[(e.day % calendar::DAY_COUNT) as usize] = m.warned;
+        self.warned[(e.day % DAY_COUNT) as usize] = m.warned;
         if let Some(mark) = m.mark {
             marks::set(&mut self.marks, mark.kind, mark.from, mark.to);
         }
+    }
+
+    // One event. A refusal writes nothing.
+    pub fn post(&mut self, e: Event) -> Result<u64, Refusal>
+        ensures { PostsIn self.old e self.new (answer_record result) }
+    {
+        let m = self.moved(e)?;
+        self.write(e, m);
         Ok(m.value)
     }
 
