@@ -4,23 +4,32 @@ use mathlib.Core.Path.{◌≡◌, refl, sym, ap, ◌∙◌}
 use native.Mathlib.Omega.{arith}
 use mathlib.Core.Bool.{true, false, cond}
 use mathlib.Core.List.{List, [], ◌∷◌}
-use lib.ListN.{length}
+use lib.ListN.{length, replicate}
+use lib.LanesLaws.{map-replicate}
 use lib.Dec.{ltb, eqb}
 use borrow.Author.Tests.{ne_eqb}
+use Rattle.std.specs.Prelude.{Ok, Err}
+use Rattle.std.proofs.lemmas.Bool.{cond-false}
 use Rattle.terms.specs.Terms.{valid_terms, terms_code}
 use Rattle.terms.specs.declared.Terms.{Terms}
 use Rattle.ledger.specs.declared.Answer.{Answer}
 use Rattle.ledger.specs.declared.Event.{Event}
-use Rattle.ledger.proofs.Cases.{decide}
-use Rattle.moves.specs.Moves.{Moved, move_of}
-use Rattle.account.specs.Record.{fresh}
-use Rattle.account.specs.Step.{cells_of, posted, step_of}
+use Rattle.ledger.specs.Refusals.{refusal_code, answer_record}
+use Rattle.ledger.specs.declared.Refusal.{Refusal}
+use Rattle.ledger.proofs.Cases.{decide, positive}
+use Rattle.moves.specs.Moves.{Moved, accepted, move_of}
+use Rattle.moves.specs.declared.Move.{Move}
+use Rattle.account.specs.Record.{blank_day, no_payment, fresh}
+use Rattle.account.specs.Step.{MovesBy, cells_of, posted, step_of}
 use Rattle.account.specs.declared.Account.{Account}
 use Rattle.refinement.specs.Lists.{account_after}
 use Rattle.posting.specs.Posting.{answer_of, row_of}
 use Rattle.posting.proofs.Ledgers.{posts, posts-row}
+use Rattle.numbers.specs.declared.DayNumbers.{DayNumbers}
+use Rattle.numbers.specs.declared.PaymentNumbers.{PaymentNumbers}
+use Rattle.numbers.specs.declared.TotalsNumbers.{TotalsNumbers}
 use Rattle.numbers.specs.declared.Numbers.{Numbers}
-use Rattle.numbers.specs.Numbers.{account_in, numbers_of, move_in, with_move, posted_in, numbers_after, row_in, OpensIn, PostsIn, PostsRowIn}
+use Rattle.numbers.specs.Numbers.{account_in, day_numbers, payment_numbers, totals_numbers, numbers_of, move_in, with_move, posted_in, numbers_after, row_in, OpensIn, PostsIn, PostsRowIn}
 use Rattle.numbers.proofs.Cells.{come-back, moved-in, moved-of}
 
 -- ---- one event
@@ -50,12 +59,37 @@ posts-in n e m r h g = record {
   numbers = λ a is. h ∙ ap (λ (x : Numbers). posted_in x e) is ∙ posted-numbers a e;
 }
 
+-- by what `AsAccount::moved` promises: a move is written, and a refusal leaves the numbers
+module _ (n : Numbers) (e : Event) where
+  abbrev after : Moved → Numbers
+  after m = cond (eqb m.code 0) (with_move n e m) n
+
+  abbrev answer : Moved → Answer
+  answer m = record { code = m.code; value = m.value }
+
+  pub accepts : (m : Move) → MovesBy (account_in n) e (Ok m) → PostsIn n e (with_move n e (accepted m)) (answer_record (Ok m.value))
+  unfolding posted_in step_of
+  accepts m p = posts-in n e _ _ (ap after p.move) (ap answer p.move)
+
+  pub refuses : (r : Refusal) → MovesBy (account_in n) e (Err r) → PostsIn n e n (answer_record (Err r))
+  unfolding posted_in step_of
+  refuses r p =
+      let not-0 = ne_eqb (refusal_code r) 0 (λ z. omega (arith, positive r, z)) in
+      posts-in n e _ _ (sym (cond-false (eqb (refusal_code r) 0) _ _ not-0) ∙ ap after p.move) (ap answer p.move)
+
 -- ---- an opening
 
 module _ (t : Terms) (n : Numbers) where
   pub opens-in : valid_terms t ≡ true → OpensIn t n (numbers_of (fresh t)) 0
   unfolding terms_code
   opens-in v = record { code = simp v; account = λ h. come-back (fresh t); numbers = λ h. refl; unchanged = λ f. absurd (f refl) }
+
+  -- by each array as it is filled
+  pub opened : (s : TotalsNumbers) (d : DayNumbers) (p : PaymentNumbers)
+      → s ≡ totals_numbers (fresh t).totals → d ≡ day_numbers blank_day → p ≡ payment_numbers no_payment → valid_terms t ≡ true
+      → OpensIn t n (record { totals = s; charges = replicate 75 0; terms = t; days = replicate 400 d; payments = replicate 128 p; spare = 0; marks = replicate 400 0; warned = replicate 400 0 }) 0
+  unfolding fresh numbers_of
+  opened s d p hs hd hp v = rw (hs, hd, hp, ← map-replicate day_numbers 400 blank_day, ← map-replicate payment_numbers 128 no_payment) (opens-in v)
 
   pub refused : valid_terms t ≡ false → OpensIn t n n 1
   unfolding terms_code

@@ -12,7 +12,7 @@ use Rattle.terms.specs.Terms.{valid_terms, terms_code}
 use Rattle.terms.specs.declared.Terms.{Terms}
 use Rattle.ledger.specs.declared.Refusal.{Refusal}
 use Rattle.ledger.specs.Refusals.{refusal_code, code_of}
-use Rattle.ledger.proofs.Cases.{decide}
+use Rattle.ledger.proofs.Cases.{decide, positive}
 use Rattle.account.specs.Step.{Opened, IsOpened}
 use Rattle.account.specs.declared.Account.{Account}
 use Rattle.refinement.proofs.Lists.{opened-valid}
@@ -24,10 +24,6 @@ use Rattle.transcript.specs.Transcript.{terms_line, by_terms, by_text, terms_in}
 abbrev IsGot : {A : Type 0} → Read A → Type 0
 IsGot (got a r) = Unit
 IsGot broken = ⊥
-
--- a refusal's code is not 0
-pub positive : (r : Refusal) → 0 < refusal_code r
-positive r = grind arith
 
 -- ---- the terms of a text
 

@@ -1,12 +1,9 @@
 use Rattle.std.proofs.Common.{rules}
-use Rattle.numbers.specs.Numbers.{posted_in}
-use Rattle.numbers.proofs.Posts.{posts-in}
+use Rattle.numbers.proofs.Posts.{accepts, refuses}
 use Rattle.numbers.proofs.Numbers.post.Goals as goal
 
 pub returns-in_err-m : goal.returns-in_err-m
-unfolding posted_in
-returns-in_err-m c = posts-in _ _ _ _ ? ?
+returns-in_err-m c = search (rules, refuses c.args.self.now c.args.e c.in_err-m.field-0.0 c.in_err-m.ensures)
 
 pub returns : goal.returns
-unfolding posted_in
-returns c = posts-in _ _ _ _ ? ?
+returns c = rw c.write.ensures (accepts _ _ _ c.in_ok-m.ensures)
