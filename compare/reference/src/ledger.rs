@@ -1,5 +1,6 @@
-//! The ledger of document 01: the terms, the list L of accepted events, B, R
-//! and service. Everything else a rule asks is read off the terms and L.
+//! The rules of document 01, over what they ask of an account (`Book`), and its
+//! ledger: the terms, the list L of accepted events, B, R and service. Everything
+//! else a rule asks of the ledger is read off the terms and L.
 
 use crate::calendar::{Date, SATURDAY, SUNDAY};
 
@@ -40,6 +41,11 @@ impl Terms {
 
     pub fn is_weekend(&self, day: u32) -> bool {
         matches!(self.weekday(day), SATURDAY | SUNDAY)
+    }
+
+    /// The month that a day lies in, counted from the opening month.
+    pub fn month_of(&self, day: u32) -> u32 {
+        self.open.plus(day).months_after(self.open)
     }
 }
 
@@ -82,6 +88,143 @@ pub struct Answer {
     pub value: i64,
 }
 
+/// A payment as the month summary counts it.
+#[derive(Clone, Copy, Debug, PartialEq, Eq)]
+pub struct Payment {
+    pub day: u32,
+    pub amount: i64,
+    pub reversed: bool,
+}
+
+/// What the rules ask of an account, and where an accepted event goes.
+pub trait Book {
+    fn terms(&self) -> Terms;
+    fn balance(&self) -> i64;
+    fn plan(&self) -> i64;
+    fn service(&self) -> bool;
+    fn last_day(&self) -> u32;
+    fn events(&self) -> usize;
+    fn payment_count(&self) -> usize;
+    /// The two parts of a payment, to the plan and to the balance.
+    fn parts(&self, number: u32) -> Option<(i64, i64)>;
+    fn is_reversed(&self, number: u32) -> bool;
+    fn usage(&self, day: u32) -> Usage;
+    /// Some accepted warning was issued on a day w with 1 <= x - w <= 7.
+    fn is_warned(&self, x: u32) -> bool;
+    fn is_covered(&self, day: u32) -> bool;
+    fn is_weather(&self, day: u32) -> bool;
+    /// For the month summary: all payments; and by kind the charges of a month, which holds the days that `has` names.
+    fn list_payments(&self) -> Vec<Payment>;
+    fn charges(&self, month: u32, has: &dyn Fn(u32) -> bool) -> [u64; 5];
+    /// An accepted event joins, and B, R and service are these.
+    fn enter(&mut self, entry: Entry, balance: i64, plan: i64, service: bool);
+
+    /// Row 1, which precedes all others.
+    fn is_account(&self) -> bool {
+        true
+    }
+
+    /// Can the event's sum be kept? Asked of an event that no row refuses.
+    fn has_room(&self, _x: u32, _event: Event) -> bool {
+        true
+    }
+
+    fn is_barred(&self, day: u32) -> bool {
+        self.terms().is_weekend(day) || self.is_covered(day)
+    }
+
+    /// Some weather day w <= x has at most one business day among w+1 to x.
+    fn is_near_weather(&self, x: u32) -> bool {
+        // Going back from x the count only grows.
+        (0..=x).rev().take_while(|&w| self.business_days(w + 1, x) <= 1).any(|w| self.is_weather(w))
+    }
+
+    /// Business days among days `from` to `to`, both included.
+    fn business_days(&self, from: u32, to: u32) -> usize {
+        (from..=to).filter(|&day| !self.terms().is_weekend(day)).count()
+    }
+
+    /// The table of refusals, one row at a time.
+    fn row_applies(&self, row: u8, x: u32, event: Event) -> bool {
+        match (row, event) {
+            (1, _) => !self.is_account(),
+            (2, _) => x < self.last_day() || x > LAST_DAY,
+            (3, _) => outside_limits(x, event),
+            (4, _) => self.events() >= MOST_EVENTS,
+            (5, Pay { .. }) => self.payment_count() >= MOST_PAYMENTS,
+            (6, Reverse { number }) => self.parts(number).is_none() || self.is_reversed(number),
+            (7, Estimate { usage, .. } | Read { usage, .. }) => usage >= x,
+            (8, Estimate { usage, .. }) => self.usage(usage) != Usage::Blank,
+            (8, Read { usage, .. }) => matches!(self.usage(usage), Usage::Metered { .. }),
+            (9, Plan { kind: 1 }) => !(self.balance() <= -5_000 && self.is_near_weather(x)),
+            (9, Plan { kind: 2 }) => !(self.balance() < 0),
+            (10, Plan { .. }) => self.plan() > 0,
+            (11, Disconnect) => !self.service(),
+            (11, Connect) => self.service(),
+            (12, Disconnect) => self.balance() >= self.terms().cutoff as i64,
+            (12, Connect) => self.balance() < self.terms().connect as i64,
+            (13, Disconnect) => !self.is_warned(x),
+            (14, Disconnect) => self.is_barred(x),
+            _ => false,
+        }
+    }
+
+    /// The lowest row that applies; else 1 where the event's sum cannot be kept; else 0.
+    fn refusal(&self, x: u32, event: Event) -> u8 {
+        (1..=14).find(|&row| self.row_applies(row, x, event)).unwrap_or_else(|| !self.has_room(x, event) as u8)
+    }
+
+    /// The ledger's step.
+    fn step(&mut self, x: u32, event: Event) -> Answer {
+        let code = self.refusal(x, event);
+        if code != 0 {
+            return Answer { code, value: 0 };
+        }
+        let mut entry = Entry { day: x, event, to_plan: 0, to_balance: 0 };
+        let (mut balance, mut plan, mut service) = (self.balance(), self.plan(), self.service());
+        let mut value = 0;
+        match event {
+            Pay { amount } => {
+                let amount = amount as i64;
+                entry.to_plan = plan.min(amount * self.terms().share as i64 / 100);
+                entry.to_balance = amount - entry.to_plan;
+                plan -= entry.to_plan;
+                balance += entry.to_balance;
+                value = self.payment_count() as i64;
+            }
+            Reverse { number } => {
+                let (to_plan, to_balance) = self.parts(number).expect("row 6");
+                plan += to_plan;
+                balance -= to_balance;
+            }
+            Credit { amount } => balance += amount as i64,
+            Charge { amount, .. } => balance -= amount as i64,
+            Estimate { wh, .. } => {
+                value = self.terms().cost(wh);
+                balance -= value;
+            }
+            Read { usage, wh } => {
+                if let Usage::Estimated { cost, .. } = self.usage(usage) {
+                    balance += cost;
+                }
+                value = self.terms().cost(wh);
+                balance -= value;
+            }
+            Warn => {}
+            Mark { .. } => {}
+            Plan { .. } => {
+                value = self.terms().connect as i64 - balance;
+                balance = self.terms().connect as i64;
+                plan += value;
+            }
+            Disconnect => service = false,
+            Connect => service = true,
+        }
+        self.enter(entry, balance, plan, service);
+        Answer { code: 0, value }
+    }
+}
+
 #[derive(Clone, Debug, PartialEq, Eq)]
 pub struct Ledger {
     pub terms: Terms,
@@ -100,147 +243,12 @@ impl Ledger {
         Some(Ledger { terms, list: Vec::new(), balance: 0, plan: 0, service: false })
     }
 
-    // What a rule asks, read off the terms and L.
-
-    pub fn last_day(&self) -> u32 {
-        self.list.last().map_or(0, |e| e.day)
-    }
-
     pub fn payments(&self) -> impl Iterator<Item = &Entry> {
         self.list.iter().filter(|e| matches!(e.event, Pay { .. }))
     }
 
     pub fn payment(&self, number: u32) -> Option<&Entry> {
         self.payments().nth(number as usize)
-    }
-
-    pub fn is_reversed(&self, number: u32) -> bool {
-        self.list.iter().any(|e| e.event == Reverse { number })
-    }
-
-    pub fn usage(&self, day: u32) -> Usage {
-        let mut found = Usage::Blank;
-        for e in &self.list {
-            match e.event {
-                Read { usage, wh } if usage == day => {
-                    return Usage::Metered { wh, cost: self.terms.cost(wh) }
-                }
-                Estimate { usage, wh } if usage == day => {
-                    found = Usage::Estimated { wh, cost: self.terms.cost(wh) }
-                }
-                _ => {}
-            }
-        }
-        found
-    }
-
-    /// Some accepted warning was issued on a day w with 1 <= x - w <= 7.
-    pub fn is_warned(&self, x: u32) -> bool {
-        self.list.iter().any(|e| e.event == Warn && e.day + 1 <= x && x <= e.day + 7)
-    }
-
-    pub fn is_covered(&self, day: u32) -> bool {
-        self.list.iter().any(|e| matches!(e.event, Mark { from, to, .. } if from <= day && day <= to))
-    }
-
-    pub fn is_weather(&self, day: u32) -> bool {
-        self.list
-            .iter()
-            .any(|e| matches!(e.event, Mark { kind: 1, from, to } if from <= day && day <= to))
-    }
-
-    pub fn is_barred(&self, day: u32) -> bool {
-        self.terms.is_weekend(day) || self.is_covered(day)
-    }
-
-    /// Some weather day w <= x has at most one business day among w+1 to x.
-    pub fn is_near_weather(&self, x: u32) -> bool {
-        // Going back from x the count only grows.
-        (0..=x).rev().take_while(|&w| self.business_days(w + 1, x) <= 1).any(|w| self.is_weather(w))
-    }
-
-    /// Business days among days `from` to `to`, both included.
-    pub fn business_days(&self, from: u32, to: u32) -> usize {
-        (from..=to).filter(|&day| !self.terms.is_weekend(day)).count()
-    }
-
-    // The table of refusals, one row at a time.
-
-    fn row_applies(&self, row: u8, x: u32, event: Event) -> bool {
-        match (row, event) {
-            (2, _) => x < self.last_day() || x > LAST_DAY,
-            (3, _) => outside_limits(x, event),
-            (4, _) => self.list.len() >= MOST_EVENTS,
-            (5, Pay { .. }) => self.payments().count() >= MOST_PAYMENTS,
-            (6, Reverse { number }) => self.payment(number).is_none() || self.is_reversed(number),
-            (7, Estimate { usage, .. } | Read { usage, .. }) => usage >= x,
-            (8, Estimate { usage, .. }) => self.usage(usage) != Usage::Blank,
-            (8, Read { usage, .. }) => matches!(self.usage(usage), Usage::Metered { .. }),
-            (9, Plan { kind: 1 }) => !(self.balance <= -5_000 && self.is_near_weather(x)),
-            (9, Plan { kind: 2 }) => !(self.balance < 0),
-            (10, Plan { .. }) => self.plan > 0,
-            (11, Disconnect) => !self.service,
-            (11, Connect) => self.service,
-            (12, Disconnect) => self.balance >= self.terms.cutoff as i64,
-            (12, Connect) => self.balance < self.terms.connect as i64,
-            (13, Disconnect) => !self.is_warned(x),
-            (14, Disconnect) => self.is_barred(x),
-            _ => false,
-        }
-    }
-
-    /// The lowest row that applies, or 0.
-    pub fn refusal(&self, x: u32, event: Event) -> u8 {
-        (2..=14).find(|&row| self.row_applies(row, x, event)).unwrap_or(0)
-    }
-
-    /// The ledger's step.
-    pub fn step(&mut self, x: u32, event: Event) -> Answer {
-        let code = self.refusal(x, event);
-        if code != 0 {
-            return Answer { code, value: 0 };
-        }
-        let mut entry = Entry { day: x, event, to_plan: 0, to_balance: 0 };
-        let mut value = 0;
-        match event {
-            Pay { amount } => {
-                let amount = amount as i64;
-                entry.to_plan = self.plan.min(amount * self.terms.share as i64 / 100);
-                entry.to_balance = amount - entry.to_plan;
-                self.plan -= entry.to_plan;
-                self.balance += entry.to_balance;
-                value = self.payments().count() as i64;
-            }
-            Reverse { number } => {
-                let payment = *self.payment(number).expect("row 6");
-                self.plan += payment.to_plan;
-                self.balance -= payment.to_balance;
-            }
-            Credit { amount } => self.balance += amount as i64,
-            Charge { amount, .. } => self.balance -= amount as i64,
-            Estimate { wh, .. } => {
-                value = self.terms.cost(wh);
-                self.balance -= value;
-            }
-            Read { usage, wh } => {
-                if let Usage::Estimated { cost, .. } = self.usage(usage) {
-                    self.balance += cost;
-                }
-                value = self.terms.cost(wh);
-                self.balance -= value;
-            }
-            Warn => {}
-            Mark { .. } => {}
-            Plan { .. } => {
-                value = self.terms.connect as i64 - self.balance;
-                self.balance = self.terms.connect as i64;
-                self.plan += value;
-            }
-            Disconnect => self.service = false,
-            Connect => self.service = true,
-        }
-        self.list.push(entry);
-        Answer { code: 0, value }
     }
 
     /// Payments without a reversal, plus credits, less charges, less reads.
@@ -274,6 +282,97 @@ impl Ledger {
                 _ => 0,
             })
             .sum()
+    }
+}
+
+/// What a rule asks, read off the terms and L.
+impl Book for Ledger {
+    fn terms(&self) -> Terms {
+        self.terms
+    }
+
+    fn balance(&self) -> i64 {
+        self.balance
+    }
+
+    fn plan(&self) -> i64 {
+        self.plan
+    }
+
+    fn service(&self) -> bool {
+        self.service
+    }
+
+    fn last_day(&self) -> u32 {
+        self.list.last().map_or(0, |e| e.day)
+    }
+
+    fn events(&self) -> usize {
+        self.list.len()
+    }
+
+    fn payment_count(&self) -> usize {
+        self.payments().count()
+    }
+
+    fn parts(&self, number: u32) -> Option<(i64, i64)> {
+        self.payment(number).map(|e| (e.to_plan, e.to_balance))
+    }
+
+    fn is_reversed(&self, number: u32) -> bool {
+        self.list.iter().any(|e| e.event == Reverse { number })
+    }
+
+    fn usage(&self, day: u32) -> Usage {
+        let mut found = Usage::Blank;
+        for e in &self.list {
+            match e.event {
+                Read { usage, wh } if usage == day => {
+                    return Usage::Metered { wh, cost: self.terms.cost(wh) }
+                }
+                Estimate { usage, wh } if usage == day => {
+                    found = Usage::Estimated { wh, cost: self.terms.cost(wh) }
+                }
+                _ => {}
+            }
+        }
+        found
+    }
+
+    fn is_warned(&self, x: u32) -> bool {
+        self.list.iter().any(|e| e.event == Warn && e.day + 1 <= x && x <= e.day + 7)
+    }
+
+    fn is_covered(&self, day: u32) -> bool {
+        self.list.iter().any(|e| matches!(e.event, Mark { from, to, .. } if from <= day && day <= to))
+    }
+
+    fn is_weather(&self, day: u32) -> bool {
+        self.list
+            .iter()
+            .any(|e| matches!(e.event, Mark { kind: 1, from, to } if from <= day && day <= to))
+    }
+
+    fn list_payments(&self) -> Vec<Payment> {
+        let payment = |(n, e): (usize, &Entry)| Payment { day: e.day, amount: e.to_plan + e.to_balance, reversed: self.is_reversed(n as u32) };
+        self.payments().enumerate().map(payment).collect()
+    }
+
+    fn charges(&self, _month: u32, has: &dyn Fn(u32) -> bool) -> [u64; 5] {
+        let mut kinds = [0; 5];
+        for e in &self.list {
+            if let Charge { kind, amount } = e.event {
+                if has(e.day) {
+                    kinds[kind as usize - 1] += amount as u64;
+                }
+            }
+        }
+        kinds
+    }
+
+    fn enter(&mut self, entry: Entry, balance: i64, plan: i64, service: bool) {
+        self.list.push(entry);
+        (self.balance, self.plan, self.service) = (balance, plan, service);
     }
 }
 

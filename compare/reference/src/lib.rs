@@ -4,6 +4,7 @@
 
 pub mod calendar;
 pub mod ledger;
+pub mod numbers;
 pub mod rows;
 pub mod summary;
 pub mod text;

@@ -2,7 +2,7 @@
 //! one visit come as a row of event records, posted in order, with one code byte
 //! each in a lent buffer". The numbers of the sorts are those of include/head.h.
 
-use crate::ledger::{Answer, Event, Ledger, Terms};
+use crate::ledger::{Answer, Book, Event, Ledger, Terms};
 use crate::summary::{summary, Summary};
 
 /// One event record. The fields that its sort does not name are not looked at.
@@ -58,36 +58,27 @@ impl Record {
     }
 }
 
-/// What the head keeps: an account, or none where its terms were refused.
-#[derive(Clone, Debug)]
-pub struct Head {
-    pub ledger: Option<Ledger>,
-}
+/// A head: one account or none, and the calls that post to it.
+pub trait Head: Clone {
+    /// The account of which rules are asked.
+    fn book(&mut self) -> Option<&mut impl Book>;
 
-impl Head {
-    /// Answers 0, or 1 where the terms are outside their limits.
-    pub fn open(terms: Terms) -> (u8, Head) {
-        let ledger = Ledger::open(terms);
-        let code = if ledger.is_some() { 0 } else { 1 };
-        (code, Head { ledger })
-    }
-
-    pub fn post(&mut self, record: &Record) -> Answer {
-        let Some(ledger) = &mut self.ledger else {
+    fn post(&mut self, record: &Record) -> Answer {
+        let Some(book) = self.book().filter(|b| b.is_account()) else {
             return Answer { code: 1, value: 0 };
         };
         match record.event() {
-            Some(event) => ledger.step(record.day, event),
+            Some(event) => book.step(record.day, event),
             // A sort outside its limits is 3, after 2, which goes by the day alone.
-            None if ledger.refusal(record.day, Event::Warn) == 2 => Answer { code: 2, value: 0 },
+            None if book.refusal(record.day, Event::Warn) == 2 => Answer { code: 2, value: 0 },
             None => Answer { code: 3, value: 0 },
         }
     }
 
     /// A month's figures: where every event gets 1, the code is 1 and every figure 0, whatever the month.
-    pub fn summary(&self, month: u32) -> Summary {
-        match &self.ledger {
-            Some(ledger) => summary(ledger, month),
+    fn summary(&mut self, month: u32) -> Summary {
+        match self.book() {
+            Some(book) => summary(book, month),
             None => Summary { code: 1, ..Summary::default() },
         }
     }
@@ -95,7 +86,7 @@ impl Head {
     /// A refused event does not stop the row. Bytes past the row's length do not
     /// change. The answer is 0, or 16 where the buffer is shorter than the row:
     /// nothing posted, nothing written. An empty row is 0 and changes nothing.
-    pub fn row(&mut self, row: &[Record], codes: &mut [u8]) -> u8 {
+    fn row(&mut self, row: &[Record], codes: &mut [u8]) -> u8 {
         if codes.len() < row.len() {
             return 16;
         }
@@ -103,5 +94,30 @@ impl Head {
             codes[i] = self.post(record).code;
         }
         0
+    }
+}
+
+/// The head by its ledger: an account, or none.
+#[derive(Clone, Debug, Default)]
+pub struct Books {
+    pub ledger: Option<Ledger>,
+}
+
+impl Books {
+    /// Answers 0; or 1 where the terms are outside their limits: no account made, and what stood there stays.
+    pub fn open(&mut self, terms: Terms) -> u8 {
+        match Ledger::open(terms) {
+            None => 1,
+            opened => {
+                self.ledger = opened;
+                0
+            }
+        }
+    }
+}
+
+impl Head for Books {
+    fn book(&mut self) -> Option<&mut impl Book> {
+        self.ledger.as_mut()
     }
 }

@@ -1,26 +1,19 @@
 //! The reference behind the C interface of include/head.h, as a shared library:
 //! in its place selftest.sh gives the comparison a reference with a mistake.
-//! An account's bytes hold only the number of its ledger here.
+//! The account calls work on the numbers in the caller's memory (src/numbers.rs), the text calls on a ledger.
 
 use reference::calendar::Date;
 use reference::ledger::Terms;
+use reference::numbers::Numbers;
 use reference::rows::{Head, Record};
 use reference::summary;
-use reference::text;
-use std::cell::RefCell;
+use reference::text::{self, Progress};
 use std::panic::{catch_unwind, AssertUnwindSafe};
 
-#[path = "../../../include/head.rs"]
+#[path = "bin/compare/head.rs"]
 #[allow(dead_code)]
 mod head;
 use head as c;
-
-const PLACES: u64 = 64;
-
-thread_local! {
-    /// The newest accounts: number and head.
-    static HEADS: RefCell<(u64, Vec<(u64, Head)>)> = const { RefCell::new((0, Vec::new())) };
-}
 
 /// Runs `f`; a panic of a mutant gives what no call gives.
 fn safely<T>(otherwise: T, f: impl FnOnce() -> T) -> T {
@@ -28,29 +21,16 @@ fn safely<T>(otherwise: T, f: impl FnOnce() -> T) -> T {
     catch_unwind(AssertUnwindSafe(f)).unwrap_or(otherwise)
 }
 
-fn with<T>(account: &c::Account, otherwise: T, f: impl FnOnce(&mut Head) -> T) -> T {
-    let number = u64::from_ne_bytes(*account.0.first_chunk().unwrap());
-    safely(None, || {
-        HEADS.with_borrow_mut(|(_, heads)| heads.iter_mut().find(|h| h.0 == number).map(|h| f(&mut h.1)))
-    })
-    .unwrap_or(otherwise)
+#[no_mangle]
+pub extern "C" fn prepay_version() -> u32 {
+    c::VERSION as u32
 }
 
 #[no_mangle]
-pub unsafe extern "C" fn prepay_open(account: *mut c::Account, t: c::Terms) -> u8 {
+pub unsafe extern "C" fn prepay_open(account: &mut Numbers, t: &c::Terms) -> u8 {
     let open = Date::new(t.year, t.month, t.day);
     let terms = Terms { open, price: t.price, connect: t.connect, cutoff: t.cutoff, share: t.share };
-    safely(255, || {
-        let (code, head) = Head::open(terms);
-        HEADS.with_borrow_mut(|(last, heads)| {
-            *last += 1;
-            heads.retain(|h| h.0 + PLACES > *last);
-            heads.push((*last, head));
-            account.write_bytes(0, 1);
-            (&mut (*account).0)[..8].copy_from_slice(&last.to_ne_bytes());
-        });
-        code
-    })
+    safely(255, || account.open(terms))
 }
 
 fn record(e: &c::Event) -> Record {
@@ -59,51 +39,76 @@ fn record(e: &c::Event) -> Record {
 }
 
 #[no_mangle]
-pub unsafe extern "C" fn prepay_post(account: *mut c::Account, event: c::Event) -> c::Answer {
-    with(&*account, c::Answer { code: 255, value: 0 }, |head| {
-        let answer = head.post(&record(&event));
-        c::Answer { code: answer.code, value: answer.value as u64 }
+pub unsafe extern "C" fn prepay_post(account: &mut Numbers, event: &c::Event) -> c::Answer {
+    safely(c::Answer { code: 255, value: 0 }, || {
+        let answer = account.post(&record(event));
+        c::Answer { code: answer.code as u64, value: answer.value as u64 }
     })
 }
 
 #[no_mangle]
-pub unsafe extern "C" fn prepay_row(
-    account: *mut c::Account, row: *const c::Event, count: usize, codes: *mut u8, codes_len: usize,
-) -> u8 {
+pub unsafe extern "C" fn prepay_row(account: &mut Numbers, row: *const c::Event, count: usize, codes: *mut u8, codes_len: usize) -> u8 {
     let row: Vec<Record> = std::slice::from_raw_parts(row, count).iter().map(record).collect();
     let codes = std::slice::from_raw_parts_mut(codes, codes_len);
-    with(&*account, 255, |head| head.row(&row, codes))
+    safely(255, || account.row(&row, codes))
 }
 
 #[no_mangle]
-pub unsafe extern "C" fn prepay_readings(account: *const c::Account) -> c::Reading {
+pub unsafe extern "C" fn prepay_readings(account: &Numbers) -> c::Reading {
     let none = c::Reading { balance: 0, settled: 0, plan: 0, estimates: 0, service: 255 };
-    with(&*account, none, |head| {
-        head.ledger.as_ref().map_or(none, |l| c::Reading {
-            balance: l.balance,
-            settled: l.settled(),
-            plan: l.plan as u64,
-            estimates: l.standing_estimates() as u64,
-            service: l.service as u64,
-        })
+    safely(none, || {
+        let r = account.readings();
+        c::Reading { balance: r.balance, settled: r.settled, plan: r.plan, estimates: r.estimates, service: r.service as u64 }
     })
 }
 
 #[no_mangle]
-pub unsafe extern "C" fn prepay_summary(account: *const c::Account, month: u32) -> c::Figures {
+pub unsafe extern "C" fn prepay_summary(account: &Numbers, month: u32) -> c::Figures {
     let none = c::Figures { code: 255, ..c::Figures::default() };
-    with(&*account, none, |head| {
-        let s = head.summary(month);
+    safely(none, || {
+        let s = summary::summary(account, month);
         c::Figures {
-            code: s.code,
-            kept: c::Counted { count: s.kept_count as u32, sum: s.kept_sum as u64 },
-            reversed: c::Counted { count: s.reversed_count as u32, sum: s.reversed_sum as u64 },
-            metered: c::Used { wh: s.metered_wh as u64, cost: s.metered_cost as u64 },
-            estimated: c::Used { wh: s.estimated_wh as u64, cost: s.estimated_cost as u64 },
-            charges: s.kinds.map(|k| k as u64),
+            code: s.code as u64,
+            kept_count: s.kept_count as u64,
+            kept_sum: s.kept_sum as u64,
+            reversed_count: s.reversed_count as u64,
+            reversed_sum: s.reversed_sum as u64,
+            metered_wh: s.metered_wh as u64,
+            metered_cost: s.metered_cost as u64,
+            estimated_wh: s.estimated_wh as u64,
+            estimated_cost: s.estimated_cost as u64,
+            charges: s.kinds,
             average: s.average as u64,
-            missing: s.missing as u8,
+            missing: s.missing as u64,
         }
+    })
+}
+
+#[no_mangle]
+pub unsafe extern "C" fn prepay_read_terms(text: *const u8, text_len: usize, reader: &mut c::Reader, terms: &mut c::Terms) -> u8 {
+    let text = std::slice::from_raw_parts(text, text_len);
+    safely(254, || {
+        let (at, read) = text::read_terms(text);
+        *reader = c::Reader { place: at.place, code: at.code };
+        if let Some(Terms { open: Date { year, month, day }, price, connect, cutoff, share }) = read {
+            *terms = c::Terms { year, month, day, price, connect, cutoff, share };
+        }
+        at.code as u8
+    })
+}
+
+#[no_mangle]
+pub unsafe extern "C" fn prepay_read_event(text: *const u8, text_len: usize, reader: &mut c::Reader, event: &mut c::Event) -> u8 {
+    let text = std::slice::from_raw_parts(text, text_len);
+    safely(254, || {
+        let mut at = Progress { place: reader.place, code: reader.code };
+        let (code, read) = text::read_event(text, &mut at);
+        *reader = c::Reader { place: at.place, code: at.code };
+        if let Some((day, e)) = read {
+            let Record { sort, day, amount, number, kind, usage, wh, from, to } = Record::of(day, e);
+            *event = c::Event { sort, day, amount, number, kind, usage, wh, from, to };
+        }
+        code
     })
 }
 

@@ -1,10 +1,12 @@
 //! The month summary.
 
-use crate::ledger::{Event, Ledger, Usage, LAST_DAY};
+use crate::ledger::{Book, Usage, LAST_DAY};
 use crate::text::{print_no_account, Run};
 use std::fmt::Write;
 
 pub const LAST_MONTH: u32 = 14;
+/// No account's charges of a month come to as much.
+const MOST_CHARGES: u64 = 1 << 40;
 
 #[derive(Clone, Debug, Default, PartialEq, Eq)]
 pub struct Summary {
@@ -17,39 +19,41 @@ pub struct Summary {
     pub metered_cost: i64,
     pub estimated_wh: i64,
     pub estimated_cost: i64,
-    pub kinds: [i64; 5],
+    pub kinds: [u64; 5],
     pub average: i64,
     pub missing: bool,
 }
 
 /// Month `m` counted from the opening month.
-pub fn summary(ledger: &Ledger, m: u32) -> Summary {
-    let open = ledger.terms.open;
+pub fn summary(book: &impl Book, m: u32) -> Summary {
+    if !book.is_account() {
+        return Summary { code: 1, ..Summary::default() };
+    }
+    let open = book.terms().open;
     let mut dates = vec![open];
     while dates.len() <= LAST_DAY as usize {
         dates.push(dates[dates.len() - 1].next());
     }
-    let in_month = |day: u32| dates[day as usize].months_after(open) == m;
+    let in_month = |day: u32| day <= LAST_DAY && dates[day as usize].months_after(open) == m;
 
     let mut s = Summary::default();
     if !(0..=LAST_DAY).any(in_month) {
         s.code = 3;
         return s;
     }
-    for (number, payment) in ledger.payments().enumerate() {
+    for payment in book.list_payments() {
         if in_month(payment.day) {
-            let amount = payment.to_plan + payment.to_balance;
-            if ledger.is_reversed(number as u32) {
+            if payment.reversed {
                 s.reversed_count += 1;
-                s.reversed_sum += amount;
+                s.reversed_sum += payment.amount;
             } else {
                 s.kept_count += 1;
-                s.kept_sum += amount;
+                s.kept_sum += payment.amount;
             }
         }
     }
     for day in (0..=LAST_DAY).filter(|&day| in_month(day)) {
-        match ledger.usage(day) {
+        match book.usage(day) {
             Usage::Blank => {}
             Usage::Estimated { wh, cost } => {
                 s.estimated_wh += wh as i64;
@@ -61,15 +65,12 @@ pub fn summary(ledger: &Ledger, m: u32) -> Summary {
             }
         }
     }
-    for e in &ledger.list {
-        if let Event::Charge { kind, amount } = e.event {
-            if in_month(e.day) {
-                s.kinds[kind as usize - 1] += amount as i64;
-            }
-        }
+    s.kinds = book.charges(m, &in_month);
+    if s.kinds[0] > MOST_CHARGES || s.kinds[1] > MOST_CHARGES {
+        return Summary { code: 1, ..Summary::default() };
     }
     let wh = s.metered_wh + s.estimated_wh;
-    let cost = s.metered_cost + s.estimated_cost + s.kinds[0] + s.kinds[1];
+    let cost = s.metered_cost + s.estimated_cost + s.kinds[0] as i64 + s.kinds[1] as i64;
     if wh == 0 {
         s.missing = true;
     } else {

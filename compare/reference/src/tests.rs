@@ -1,5 +1,6 @@
 use crate::calendar::*;
 use crate::ledger::*;
+use crate::numbers::*;
 use crate::rows::*;
 use crate::summary;
 use crate::text::*;
@@ -451,15 +452,20 @@ fn records_and_events() {
     assert_eq!(example_records().iter().map(|r| r.sort).collect::<Vec<u32>>(), [1, 11, 5, 6, 7, 4, 10, 10, 1, 11]);
 }
 
+fn opened() -> Books {
+    let mut head = Books::default();
+    assert_eq!(head.open(terms()), 0);
+    head
+}
+
 #[test]
 fn rows_of_the_worked_example() {
     let records = example_records();
     let good = [0, 0, 0, 0, 0, 0, 13, 0, 0, 12];
-    let (_, mut singly) = Head::open(terms());
+    let mut singly = opened();
     assert_eq!(records.iter().map(|r| singly.post(r).code).collect::<Vec<u8>>(), good);
     for length in 1..=10 {
-        let (code, mut head) = Head::open(terms());
-        assert_eq!(code, 0);
+        let mut head = opened();
         for (row, good) in records.chunks(length).zip(good.chunks(length)) {
             // One byte too short, then two bytes longer.
             let before = head.ledger.clone();
@@ -482,7 +488,7 @@ fn rows_of_the_worked_example() {
 
 #[test]
 fn sorts_outside_their_limits() {
-    let (_, mut head) = Head::open(terms());
+    let mut head = opened();
     head.post(&Record { sort: 7, day: 5, ..Record::default() });
     for sort in [0, 12, 256 + 7, u32::MAX] {
         for (day, code) in [(4, 2), (5, 3), (399, 3), (400, 2)] {
@@ -493,9 +499,185 @@ fn sorts_outside_their_limits() {
 
 #[test]
 fn refused_terms_make_no_account() {
-    let (code, mut head) = Head::open(Terms { share: 51, ..terms() });
-    assert_eq!(code, 1);
+    let mut head = Books::default();
+    assert_eq!(head.open(Terms { share: 51, ..terms() }), 1);
     let mut codes = [99; 11];
     assert_eq!(head.row(&example_records(), &mut codes), 0);
     assert_eq!(codes, [1, 1, 1, 1, 1, 1, 1, 1, 1, 1, 99]);
+    // Nor do they take one away.
+    let mut head = opened();
+    head.post(&example_records()[0]);
+    assert_eq!(head.open(Terms { share: 51, ..terms() }), 1);
+    assert_eq!(head.ledger.as_ref().unwrap().balance, 6_000);
+    assert_eq!(head.open(terms()), 0);
+    assert_eq!(head.ledger.unwrap().balance, 0);
+}
+
+#[test]
+fn event_by_event() {
+    let text = format!("{TERMS}day=0\ndo=warn\nday=1\ndo=pay\namount=7\n");
+    let (mut at, read) = read_terms(text.as_bytes());
+    assert_eq!((at, read), (Progress { place: TERMS.len() as u32, code: 0 }, Some(terms())));
+    assert_eq!(read_event(text.as_bytes(), &mut at), (0, Some((0, Event::Warn))));
+    assert_eq!(at, Progress { place: TERMS.len() as u32 + 14, code: 0 });
+    // Cut off, then whole: the place stays at 15, and 15 stays.
+    let (mut broken, cut) = (at, &text.as_bytes()[..text.len() - 1]);
+    for text in [cut, text.as_bytes()] {
+        assert_eq!(read_event(text, &mut broken), (15, None));
+        assert_eq!(broken, Progress { code: 15, ..at });
+    }
+    assert_eq!(read_event(text.as_bytes(), &mut at), (0, Some((1, Event::Pay { amount: 7 }))));
+    for _ in 0..2 {
+        assert_eq!(read_event(text.as_bytes(), &mut at), (END, None));
+        assert_eq!(at, Progress { place: text.len() as u32, code: 255 });
+    }
+    // Terms refused by 1 are read; malformed ones are not, nor is a text too long.
+    assert!(read_terms(text.replace("share=50", "share=51").as_bytes()).1.is_some());
+    let long = vec![b'\n'; MOST_BYTES + 1];
+    for bad in [text.replace("share=50", "share=-1").as_bytes(), &[text.as_bytes(), &long].concat()] {
+        assert_eq!(read_terms(bad), (Progress { place: 0, code: 15 }, None));
+    }
+    assert_eq!(read_event(&long, &mut Progress { place: long.len() as u32, code: 0 }), (15, None));
+    assert_eq!(read_event(b"", &mut Progress { place: 1, code: 0 }), (15, None));
+    assert_eq!(read_event(b"", &mut Progress { place: 0, code: 256 }), (15, None));
+}
+
+// Numbers.
+
+fn numbers() -> Numbers {
+    Numbers::fresh(terms())
+}
+
+/// Events that together touch every sort of cell.
+fn full_records() -> Vec<Record> {
+    let mut records = example_records();
+    let of = |day, event| Record::of(day, event);
+    records.extend([
+        of(5, Event::Mark { kind: 1, from: 5, to: 7 }),
+        of(5, Event::Mark { kind: 3, from: 7, to: 8 }),
+        of(5, Event::Estimate { usage: 4, wh: 99_999 }),
+        of(6, Event::Charge { kind: 2, amount: 20_000 }),
+        of(6, Event::Plan { kind: 1 }),
+        of(33, Event::Pay { amount: 3_001 }),
+        of(33, Event::Reverse { number: 2 }),
+        of(33, Event::Charge { kind: 5, amount: 9 }),
+        of(34, Event::Credit { amount: 7_000 }),
+        of(34, Event::Connect),
+        of(35, Event::Estimate { usage: 34, wh: 5_000 }),
+        of(36, Event::Read { usage: 4, wh: 1 }),
+        of(36, Event::Pay { amount: 0 }),
+    ]);
+    records
+}
+
+#[test]
+fn numbers_of_a_ledger() {
+    let (mut head, mut n) = (opened(), numbers());
+    for record in full_records() {
+        assert_eq!(head.post(&record), n.post(&record), "{record:?}");
+        let ledger = head.ledger.as_ref().unwrap();
+        let of = Numbers::of(ledger);
+        let r = n.readings();
+        assert_eq!((r.balance, r.settled), (ledger.balance, ledger.settled()));
+        assert_eq!((r.plan as i64, r.estimates as i64, r.service), (ledger.plan, ledger.standing_estimates(), ledger.service));
+        // Credit and debit by their difference.
+        assert_eq!(Numbers { totals: Totals { credit: of.totals.credit, debit: of.totals.debit, ..n.totals }, ..n }, of);
+        for m in 0..=15 {
+            assert_eq!(summary::summary(&n, m), summary::summary(ledger, m));
+        }
+    }
+    assert_eq!((n.totals.count, n.totals.events, n.totals.last, n.totals.on), (3, 20, 36, 1));
+    assert_eq!((n.marks[7], n.payments[2].part, n.payments[2].reversed), (5, 1_500, 1));
+}
+
+fn all_refused(n: &Numbers) -> bool {
+    let mut after = *n;
+    full_records().iter().all(|r| after.post(r) == Answer { code: 1, value: 0 })
+        && after == *n
+        && (0..17).all(|m| summary::summary(n, m) == summary::Summary { code: 1, ..Default::default() })
+}
+
+#[test]
+fn numbers_that_are_no_account() {
+    let with = |change: fn(&mut Numbers)| {
+        let mut n = numbers();
+        change(&mut n);
+        n
+    };
+    assert!(all_refused(&with(|n| n.terms = TermCells::default())));
+    assert!(all_refused(&with(|n| n.terms.share = 51)));
+    assert!(all_refused(&with(|n| n.totals.count = 129)));
+    assert!(all_refused(&with(|n| n.totals.credit = (1 << 60) + 1)));
+    assert!(all_refused(&with(|n| n.totals.debit = u64::MAX)));
+    assert!(all_refused(&with(|n| n.totals.plan = (1 << 60) + 1)));
+    assert!(all_refused(&with(|n| n.totals.standing = (1 << 60) + 1)));
+    for n in [
+        with(|n| n.totals.count = 128),
+        with(|n| n.totals.credit = 1 << 60),
+        with(|n| n.totals.debit = 1 << 60),
+        with(|n| n.totals.plan = 1 << 60),
+        with(|n| n.totals.standing = 1 << 60),
+        with(|n| n.spare = 9),
+    ] {
+        assert_eq!({ n }.post(&Record::of(0, Event::Warn)).code, 0);
+        assert!(!all_refused(&n));
+    }
+    // Readings have no code.
+    let r = with(|n| (n.totals.credit, n.totals.plan) = (5, u64::MAX)).readings();
+    assert_eq!((r.balance, r.settled, r.plan), (5, 0, u64::MAX));
+    assert_eq!(with(|n| (n.totals.credit, n.totals.debit) = (5, u64::MAX)).readings().balance, 0);
+}
+
+#[test]
+fn damaged_numbers() {
+    let credit = Record::of(0, Event::Credit { amount: 10_000 });
+    let mut n = numbers();
+    // Any other number is off; blank; not reversed.
+    n.totals.on = 7;
+    n.days[0] = DayCells { state: 9, wh: 8, cost: 7 };
+    n.totals.count = 1;
+    n.payments[0] = PaymentCells { day: 1_000, amount: 30, part: 10, reversed: 2 };
+    assert!(!n.readings().service && n.usage(0) == Usage::Blank && !n.is_reversed(0));
+    assert_eq!(summary::summary(&n, 0).kept_count, 0);
+    assert_eq!(n.post(&credit).code, 0);
+    assert_eq!((n.totals.on, n.days[0].cost, n.payments[0].reversed), (7, 7, 2));
+    assert_eq!(n.post(&Record::of(0, Event::Reverse { number: 0 })).code, 0);
+    assert_eq!((n.readings().balance, n.totals.plan, n.payments[0].reversed), (9_980, 10, 1));
+    assert_eq!(n.post(&Record::of(0, Event::Connect)).code, 0);
+    assert_eq!(n.totals.on, 1);
+    assert_eq!(n.post(&Record::of(1, Event::Estimate { usage: 0, wh: 40 })), Answer { code: 0, value: 1 });
+    assert_eq!(n.days[0], DayCells { state: 1, wh: 40, cost: 1 });
+    // A day's cost is what stands there.
+    n.days[0].cost = 100;
+    n.totals.standing = 150;
+    assert_eq!(n.post(&Record::of(1, Event::Read { usage: 0, wh: 40 })), Answer { code: 0, value: 1 });
+    assert_eq!((n.readings().balance, n.totals.standing, n.days[0].state), (9_980 - 1 + 100 - 1, 50, 2));
+    // A charge's sum; the other refusals come first.
+    n.charges[1] = (1 << 60) + 1;
+    let charge = |day, amount| Record::of(day, Event::Charge { kind: 2, amount });
+    assert_eq!([n.post(&charge(1, 5)).code, n.post(&charge(1, 0)).code, n.post(&charge(0, 0)).code, n.post(&charge(31, 5)).code], [1, 3, 2, 0]);
+    n.charges[1] = 1 << 60;
+    n.totals.last = 1;
+    assert_eq!(n.post(&charge(1, 5)).code, 0);
+    // 2^40 of kinds 1 and 2 in a month's figures; after 3.
+    n.terms = numbers().terms;
+    let code = |n: &Numbers, m| summary::summary(n, m).code;
+    assert_eq!([code(&n, 0), code(&n, 1), code(&n, 14)], [1, 0, 3]);
+    n.charges[..5].copy_from_slice(&[1 << 40, 1 << 40, u64::MAX, u64::MAX, u64::MAX]);
+    assert_eq!(code(&n, 0), 0);
+    assert_eq!(summary::summary(&n, 0).kinds[4], u64::MAX);
+    // The last day and the count of events as they stand.
+    n.totals.last = 400;
+    assert_eq!(n.post(&credit).code, 2);
+    (n.totals.last, n.totals.events) = (0, 4_095);
+    assert_eq!([n.post(&credit).code, n.post(&credit).code], [0, 4]);
+}
+
+#[test]
+fn opening_over_any_numbers() {
+    let mut n = numbers();
+    n.totals.standing = 3;
+    let before = n;
+    assert_eq!((n.open(Terms { share: 51, ..terms() }), n), (1, before));
+    assert_eq!((n.open(terms()), n), (0, numbers()));
 }

@@ -1,7 +1,7 @@
 //! The event text and the lines that `prepay` prints for it.
 
 use crate::calendar::Date;
-use crate::ledger::{Answer, Event, Ledger, Terms};
+use crate::ledger::{Answer, Book, Event, Ledger, Terms};
 use std::fmt::Write;
 
 pub const MOST_BYTES: usize = 65_536;
@@ -104,28 +104,67 @@ pub enum Run {
     Account { ledger: Ledger, steps: Vec<Step> },
 }
 
-pub fn run(text: &[u8]) -> Run {
-    if text.len() > MOST_BYTES {
-        return Run::NoAccount(15);
-    }
+/// How far a text has been read, as include/head.h has it: the byte at which the next event starts, and 0; or the code that ended the reading.
+#[derive(Clone, Copy, Debug, PartialEq, Eq)]
+pub struct Progress {
+    pub place: u32,
+    pub code: u32,
+}
+
+/// The code at the end of a text.
+pub const END: u8 = 255;
+
+/// The terms, and where the events start; or 15. A text too long has malformed terms.
+pub fn read_terms(text: &[u8]) -> (Progress, Option<Terms>) {
     let mut reader = Reader { rest: text };
-    let Some(terms) = reader.terms() else {
+    match reader.terms() {
+        Some(terms) if text.len() <= MOST_BYTES => {
+            (Progress { place: (text.len() - reader.rest.len()) as u32, code: 0 }, Some(terms))
+        }
+        _ => (Progress { place: 0, code: 15 }, None),
+    }
+}
+
+/// 0 and the next event, `END`, or 15; after one of these two the same again, and 15 after any other code.
+pub fn read_event(text: &[u8], at: &mut Progress) -> (u8, Option<(u32, Event)>) {
+    if at.code != 0 {
+        return (if at.code == END as u32 { END } else { 15 }, None);
+    }
+    let place = at.place as usize;
+    let (code, read) = if text.len() > MOST_BYTES || place > text.len() {
+        (15, None)
+    } else if place == text.len() {
+        (END, None)
+    } else {
+        let mut reader = Reader { rest: &text[place..] };
+        match reader.event() {
+            Some(read) => {
+                at.place = (text.len() - reader.rest.len()) as u32;
+                (0, Some(read))
+            }
+            None => (15, None),
+        }
+    };
+    at.code = code as u32;
+    (code, read)
+}
+
+pub fn run(text: &[u8]) -> Run {
+    let (mut at, Some(terms)) = read_terms(text) else {
         return Run::NoAccount(15);
     };
     let Some(mut ledger) = Ledger::open(terms) else {
         return Run::NoAccount(1);
     };
     let mut steps = Vec::new();
-    while !reader.rest.is_empty() {
-        let posted = reader.event();
+    while at.code == 0 {
+        let (code, posted) = read_event(text, &mut at);
         let answer = match posted {
             Some((day, event)) => ledger.step(day, event),
-            None => Answer { code: 15, value: 0 },
+            None if code == END => break,
+            None => Answer { code, value: 0 },
         };
         steps.push(Step { posted, answer, balance: ledger.balance, plan: ledger.plan });
-        if posted.is_none() {
-            break;
-        }
     }
     Run::Account { ledger, steps }
 }

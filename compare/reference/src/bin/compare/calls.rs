@@ -1,31 +1,36 @@
-//! Lists of calls on one account: single posts, rows, readings, figures. Each
-//! is made of events as the texts have them, or of arbitrary records, cut into
+//! Lists of calls on one account: openings, single posts, rows, readings, figures;
+//! and wrong numbers put into the account in between.
+//! Each is made of events as the texts have them, or of arbitrary records, cut into
 //! calls; the library under test and the reference get the same.
 
+use crate::cells::{self, Cell};
 use crate::generate;
-use crate::head::{Event as LentEvent, Figures, Reading, Terms as LentTerms};
-use crate::lent::Lent;
+use crate::head::{self, Event as LentEvent, Figures, Reading};
+use crate::lent::{guarded_row, lent_event, lent_terms, Guarded};
 use crate::rng::Rng;
 use crate::stats::CallStats;
 use reference::calendar::Date;
 use reference::ledger::Terms;
-use reference::rows::{Head, Record};
+use reference::numbers::Numbers;
+use reference::rows::{Books, Head, Record};
 use reference::summary::{self, Summary};
 use reference::text::Reader;
 use std::fmt::Write;
 
 #[derive(Clone, Debug, PartialEq, Eq)]
 pub enum Call {
+    Open(Terms),
     Post(Record),
     /// A row, and how many bytes its lent buffer has.
     Row(Vec<Record>, usize),
     /// The figures of months 0 to 14 and of this one.
     Figures(u32),
+    /// Not a call: the account's numbers are changed by another hand.
+    Set(Vec<(Cell, u64)>),
 }
 
 #[derive(Clone, Debug, PartialEq, Eq)]
 pub struct List {
-    pub terms: Terms,
     pub calls: Vec<Call>,
 }
 
@@ -38,8 +43,10 @@ pub struct Difference {
 
 // Making lists.
 
-const KINDS: [(&str, u64); 10] = [
+const KINDS: [(&str, u64); 12] = [
     ("steered", 42),
+    ("damaged", 15),
+    ("pointed", 15),
     ("arbitrary", 16),
     ("random", 10),
     ("payments", 7),
@@ -51,14 +58,38 @@ const KINDS: [(&str, u64); 10] = [
     ("long random", 3),
 ];
 
+/// Wrong numbers, and after each lot an event that looks at them.
+fn pointed(r: &mut Rng) -> List {
+    let mut calls = Vec::new();
+    let mut terms = generate::good_terms(r);
+    for i in 0..r.pick(&[3, 10, 30, 60]) {
+        if i == 0 || r.percent(20) {
+            terms = generate::good_terms(r);
+            calls.push(Call::Open(terms));
+        }
+        let x = r.below(400) as u32;
+        let (cells, record) = cells::pointed(r, &terms, x);
+        calls.push(Call::Set(cells));
+        calls.push(if r.percent(80) { Call::Post(record) } else { Call::Row(vec![record, near_record(r, x), record], 3) });
+        if r.percent(20) {
+            calls.push(Call::Figures(far_month(r)));
+        }
+    }
+    List { calls }
+}
+
 /// A list and the name of the generator that made it.
 pub fn list(r: &mut Rng) -> (List, &'static str) {
     let kind = KINDS[r.weighted(&KINDS.map(|k| k.1))].0;
+    if kind == "pointed" {
+        return (pointed(r), kind);
+    }
     let (terms, mut records) = match kind {
         "arbitrary" => arbitrary(r),
+        "damaged" if r.percent(50) => arbitrary(r),
         "terms" => (terms_of_any_size(r), (0..r.below(5)).map(|_| any_record(r, 0)).collect()),
         _ => of_text(&match kind {
-            "steered" => generate::guided(r, 3_000, 40),
+            "steered" | "damaged" => generate::guided(r, 3_000, 40),
             "random" => generate::random(r, 1_500),
             "payments" => generate::payments(r),
             "year" => generate::year(r),
@@ -89,7 +120,29 @@ pub fn list(r: &mut Rng) -> (List, &'static str) {
         }
         with_strange.push(record);
     }
-    (List { terms, calls: cut(r, with_strange) }, kind)
+    let mut calls = vec![Call::Open(terms)];
+    calls.extend(cut(r, with_strange));
+    // Another account in its place.
+    if r.percent(3) {
+        calls.insert(r.index(calls.len() + 1), Call::Open(generate::good_terms(r)));
+    }
+    if kind == "damaged" {
+        for _ in 0..r.pick(&[1, 1, 2, 3, 10]) {
+            let at = r.index(calls.len());
+            calls.insert(at, Call::Set(cells::damage(r, &coming(&calls[at..]))));
+        }
+    }
+    (List { calls }, kind)
+}
+
+/// The first records of calls.
+fn coming(calls: &[Call]) -> Vec<Record> {
+    let records = |call: &Call| match call {
+        Call::Post(e) => vec![*e],
+        Call::Row(row, _) => row.clone(),
+        _ => Vec::new(),
+    };
+    calls.iter().take(8).flat_map(records).take(8).collect()
 }
 
 /// The terms and events of a text, as far as it is well formed.
@@ -265,11 +318,17 @@ fn far_month(r: &mut Rng) -> u32 {
     r.pick(&[15, 16, 24, 127, 128, 255, 256, 257, 269, 65_536, 65_537, 1 << 31, u32::MAX - 1, u32::MAX])
 }
 
-/// A call that changes nothing: an empty row, a short buffer, the figures.
+/// A call that changes nothing: refused terms, an empty row, a short buffer, the figures.
 fn idle_call(r: &mut Rng, rest: &[Record]) -> Call {
-    match r.below(8) {
+    match r.below(9) {
         0 => Call::Figures(far_month(r)),
         1 | 2 => Call::Row(Vec::new(), longer(r)),
+        3 => Call::Open(loop {
+            let terms = terms_of_any_size(r);
+            if !terms.within_limits() {
+                break terms;
+            }
+        }),
         _ => {
             let most = r.pick(&[1, 2, 10, 300]);
             let count = 1 + r.index(rest.len().clamp(1, most));
@@ -289,76 +348,111 @@ fn idle_call(r: &mut Rng, rest: &[Record]) -> Call {
 
 // Running them.
 
-fn lent(record: &Record) -> LentEvent {
-    let &Record { sort, day, amount, number, kind, usage, wh, from, to } = record;
-    LentEvent { sort, day, amount, number, kind, usage, wh, from, to }
-}
-
 fn figures(s: &Summary) -> Figures {
-    use crate::head::{Counted, Used};
     Figures {
-        code: s.code,
-        kept: Counted { count: s.kept_count as u32, sum: s.kept_sum as u64 },
-        reversed: Counted { count: s.reversed_count as u32, sum: s.reversed_sum as u64 },
-        metered: Used { wh: s.metered_wh as u64, cost: s.metered_cost as u64 },
-        estimated: Used { wh: s.estimated_wh as u64, cost: s.estimated_cost as u64 },
-        charges: s.kinds.map(|k| k as u64),
+        code: s.code as u64,
+        kept_count: s.kept_count as u64,
+        kept_sum: s.kept_sum as u64,
+        reversed_count: s.reversed_count as u64,
+        reversed_sum: s.reversed_sum as u64,
+        metered_wh: s.metered_wh as u64,
+        metered_cost: s.metered_cost as u64,
+        estimated_wh: s.estimated_wh as u64,
+        estimated_cost: s.estimated_cost as u64,
+        charges: s.kinds,
         average: s.average as u64,
-        missing: s.missing as u8,
+        missing: s.missing as u64,
     }
 }
 
 /// What a buffer or an account holds beforehand: nothing that a call writes.
 const FILLS: [u8; 5] = [0xEE, 0xFF, 0x5A, 0x80, 0x77];
 
-/// The first difference of the two sides, if there is one.
-pub fn run(list: &List, lent_account: &mut Lent, mut stats: Option<&mut CallStats>) -> Option<Difference> {
-    let Terms { open: Date { year, month, day }, price, connect, cutoff, share } = list.terms;
-    let (code, mut head) = Head::open(list.terms);
+/// Memory for an account, of this byte alone.
+pub fn filled(byte: u8) -> Numbers {
+    // SAFETY: numbers alone, any bytes are such.
+    unsafe { std::mem::transmute([byte; head::ACCOUNT_SIZE]) }
+}
+
+fn readings(r: &reference::numbers::Readings) -> Reading {
+    Reading { balance: r.balance, settled: r.settled, plan: r.plan, estimates: r.estimates, service: r.service as u64 }
+}
+
+/// The first difference of the two sides, if there is one. The reference works twice: on the account's numbers as they stand, which it
+/// changes as it should; and from an opening on, until another hand changes them, on its ledger. A second account gets the same calls, its
+/// posts as rows of one event and its rows as posts: its numbers must be the same.
+pub fn run(list: &List, account: &mut Guarded<Numbers>, mut stats: Option<&mut CallStats>) -> Option<Difference> {
     let differs = |call: usize, what: String| Some(Difference { call, what });
-    let got = lent_account.open(LentTerms { year, month, day, price, connect, cutoff, share }, FILLS[list.calls.len() % FILLS.len()]);
-    if let Some(s) = stats.as_deref_mut() {
-        s.note_open(code);
-    }
-    if got != code {
-        return differs(0, format!("open: reference {code}, tested {got}"));
-    }
-    if !lent_account.guards_stand() {
-        return differs(0, "open: bytes around the account were written".into());
-    }
+    let mut books = Books::default();
+    account.held = filled(FILLS[list.calls.len() % FILLS.len()]);
+    let mut second = Guarded::new(account.held);
+    let mut damaged = false;
     for (i, call) in list.calls.iter().enumerate() {
         let fill = FILLS[i % FILLS.len()];
-        let before = lent_account.bytes();
-        let mut accepted = false;
+        let before = account.held;
+        let mut good = before;
+        let mut accepted = 0;
         match call {
-            Call::Post(record) => {
-                let good = head.post(record);
-                let got = lent_account.post(lent(record));
-                if (good.code, good.value as u64) != (got.code, got.value) {
-                    return differs(i, format!("reference {good:?}, tested {got:?}"));
+            Call::Open(terms) => {
+                let code = good.open(*terms);
+                if books.open(*terms) != code {
+                    return differs(i, format!("the reference differs from itself: numbers {code}"));
                 }
-                accepted = good.code == 0;
+                let got = head::open(&mut account.held, &lent_terms(terms));
+                if got != code {
+                    return differs(i, format!("reference {code}, tested {got}"));
+                }
+                accepted = (code == 0) as usize;
+                if code == 0 {
+                    second.held = filled(fill);
+                    damaged = false;
+                }
+                head::open(&mut second.held, &lent_terms(terms));
                 if let Some(s) = stats.as_deref_mut() {
-                    s.note_event(record, good.code, false);
+                    s.opened[code as usize] += 1;
+                }
+            }
+            Call::Post(record) => {
+                let answer = good.post(record);
+                if !damaged && books.post(record) != answer {
+                    return differs(i, format!("the reference differs from itself: numbers {answer:?}"));
+                }
+                let got = head::post(&mut account.held, &lent_event(record));
+                if (answer.code as u64, answer.value as u64) != (got.code, got.value) {
+                    return differs(i, format!("reference {answer:?}, tested {got:?}"));
+                }
+                accepted = (answer.code == 0) as usize;
+                head::row(&mut second.held, &[lent_event(record)], &mut [fill]);
+                if let Some(s) = stats.as_deref_mut() {
+                    s.note_event(record, answer.code, false, damaged);
+                    if damaged {
+                        s.look(&before, record, answer.code);
+                    }
                 }
             }
             Call::Row(row, buffer) => {
-                let mut codes = vec![fill; *buffer];
-                let good = head.row(row, &mut codes);
-                let events: Vec<LentEvent> = row.iter().map(lent).collect();
-                match lent_account.row(&events, *buffer, fill) {
+                let (mut codes, mut by_books) = (vec![fill; *buffer], vec![fill; *buffer]);
+                let answer = good.row(row, &mut codes);
+                if !damaged && (books.row(row, &mut by_books), by_books) != (answer, codes.clone()) {
+                    return differs(i, format!("the reference differs from itself: numbers {answer} {codes:?}"));
+                }
+                let events: Vec<LentEvent> = row.iter().map(lent_event).collect();
+                match guarded_row(&mut account.held, &events, *buffer, fill) {
                     Err(what) => return differs(i, what),
-                    Ok((got, _)) if got != good => return differs(i, format!("the row's answer: reference {good}, tested {got}")),
+                    Ok((got, _)) if got != answer => return differs(i, format!("the row's answer: reference {answer}, tested {got}")),
                     Ok((_, got)) => {
                         if let Some(k) = (0..codes.len()).find(|&k| codes[k] != got[k]) {
-                            let part = if k < row.len() && good == 0 { "code" } else { "a byte that must stay" };
+                            let part = if k < row.len() && answer == 0 { "code" } else { "a byte that must stay" };
                             return differs(i, format!("byte {k} of the buffer, {part}: reference {}, tested {}", codes[k], got[k]));
                         }
                     }
                 }
-                accepted = good == 0 && codes[..row.len()].contains(&0);
+                accepted = if answer == 0 { codes[..row.len()].iter().filter(|&&c| c == 0).count() } else { 0 };
+                if answer == 0 {
+                    events.iter().for_each(|e| _ = head::post(&mut second.held, e));
+                }
                 if let Some(s) = stats.as_deref_mut() {
-                    s.note_row(row, *buffer, good, &codes);
+                    s.note_row(row, *buffer, answer, &codes, damaged);
                 }
             }
             Call::Figures(far) => {
@@ -366,36 +460,66 @@ pub fn run(list: &List, lent_account: &mut Lent, mut stats: Option<&mut CallStat
                     s.figures += 1;
                 }
                 for month in (0..=summary::LAST_MONTH).chain([*far]) {
-                    let good = figures(&head.summary(month));
-                    let got = lent_account.summary(month);
-                    if good != got {
-                        return differs(i, format!("month {month}: reference {good:?}, tested {got:?}"));
+                    let of_month = summary::summary(&good, month);
+                    if !damaged && books.summary(month) != of_month {
+                        return differs(i, format!("the reference differs from itself: numbers {of_month:?}"));
+                    }
+                    let (of_month, got) = (figures(&of_month), head::summary(&account.held, month));
+                    if of_month != got {
+                        return differs(i, format!("month {month}: reference {of_month:?}, tested {got:?}"));
+                    }
+                }
+                // The numbers themselves are those of the ledger.
+                if let (false, Some(ledger)) = (damaged, &books.ledger) {
+                    if let Some(what) = cells::difference(&Numbers::of(ledger), &good, 0) {
+                        return differs(i, format!("the ledger's numbers, {what}"));
                     }
                 }
             }
+            Call::Set(cells) => {
+                for &(cell, value) in cells {
+                    cell.set(&mut account.held, value);
+                    cell.set(&mut second.held, value);
+                }
+                good = account.held;
+                (accepted, damaged) = (1, true);
+                if let Some(s) = stats.as_deref_mut() {
+                    s.sets += 1;
+                    s.set_cells += cells.len() as u64;
+                }
+            }
         }
-        if !lent_account.guards_stand() {
+        if !(account.guards_stand() && second.guards_stand()) {
             return differs(i, "bytes around the account were written".into());
         }
-        if !accepted && lent_account.bytes() != before {
+        if accepted == 0 && account.held != before {
             return differs(i, "nothing was accepted, but the account has changed".into());
         }
-        if let Some(ledger) = &head.ledger {
-            let got = lent_account.readings();
+        if let Some(what) = cells::difference(&good, &account.held, accepted) {
+            return differs(i, format!("the account's numbers, {what}"));
+        }
+        if account.held != second.held {
+            return differs(i, "a second account, posted to in rows where this one was singly and the other way round, has other numbers".into());
+        }
+        let (by_numbers, got) = (readings(&account.held.readings()), head::readings(&account.held));
+        if by_numbers != got {
+            return differs(i, format!("afterwards: reference {by_numbers:?}, tested {got:?}"));
+        }
+        if let Some(s) = stats.as_deref_mut() {
+            s.readings += 1;
+        }
+        if let (false, Some(ledger)) = (damaged, &books.ledger) {
             // The two sums are read off the whole list: after each call while it is short.
             let sums = ledger.list.len() < 200 || i % 32 == 0 || i + 1 == list.calls.len();
-            let good = Reading {
+            let by_ledger = Reading {
                 balance: ledger.balance,
                 settled: if sums { ledger.settled() } else { got.settled },
                 plan: ledger.plan as u64,
                 estimates: if sums { ledger.standing_estimates() as u64 } else { got.estimates },
                 service: ledger.service as u64,
             };
-            if let Some(s) = stats.as_deref_mut() {
-                s.readings += 1;
-            }
-            if good != got {
-                return differs(i, format!("afterwards: reference {good:?}, tested {got:?}"));
+            if by_ledger != got {
+                return differs(i, format!("afterwards: the ledger {by_ledger:?}, tested {got:?}"));
             }
         }
     }
@@ -410,19 +534,24 @@ fn write_record(out: &mut String, word: &str, e: &Record) {
 }
 
 pub fn write(list: &List) -> String {
-    let Terms { open: Date { year, month, day }, price, connect, cutoff, share } = list.terms;
     let mut out = String::from("# open: year month day price connect cutoff share\n");
     out.push_str("# post, and each event of a row: sort day amount number kind usage wh from to\n");
-    out.push_str("# row: its buffer's bytes, its events; figures: one more month\n");
-    writeln!(out, "open {year} {month} {day} {price} {connect} {cutoff} {share}").unwrap();
+    out.push_str("# row: its buffer's bytes, its events; figures: one more month; set: how many numbers of the account, their values\n");
     for call in &list.calls {
         match call {
+            Call::Open(Terms { open: Date { year, month, day }, price, connect, cutoff, share }) => {
+                writeln!(out, "open {year} {month} {day} {price} {connect} {cutoff} {share}").unwrap();
+            }
             Call::Post(e) => write_record(&mut out, "post", e),
             Call::Row(row, buffer) => {
                 writeln!(out, "row {buffer} {}", row.len()).unwrap();
                 row.iter().for_each(|e| write_record(&mut out, " ", e));
             }
             Call::Figures(far) => writeln!(out, "figures {far}").unwrap(),
+            Call::Set(cells) => {
+                writeln!(out, "set {}", cells.len()).unwrap();
+                cells.iter().for_each(|(cell, value)| writeln!(out, "  {} {value}", cell.name()).unwrap());
+            }
         }
     }
     out
@@ -436,14 +565,22 @@ pub fn read(text: &str) -> Option<List> {
         let [sort, day, amount, number, kind, usage, wh, from, to] = n[..] else { return None };
         Some(Record { sort, day, amount, number, kind, usage, wh, from, to })
     };
-    let open = lines.next()?;
-    let [year, month, day, price, connect, cutoff, share] = numbers(open.strip_prefix(&["open"])?)?[..] else { return None };
-    let terms = Terms { open: Date::new(year, month, day), price, connect, cutoff, share };
     let mut calls = Vec::new();
     while let Some(words) = lines.next() {
         calls.push(match words[..] {
+            ["open", ..] => {
+                let [year, month, day, price, connect, cutoff, share] = numbers(&words[1..])?[..] else { return None };
+                Call::Open(Terms { open: Date::new(year, month, day), price, connect, cutoff, share })
+            }
             ["post", ..] => Call::Post(record(&words[1..])?),
             ["figures", far] => Call::Figures(far.parse().ok()?),
+            ["set", count] => {
+                let cell = |words: Vec<&str>| match words[..] {
+                    [group, index, field, value] => Some((Cell::read(group, index, field)?, value.parse().ok()?)),
+                    _ => None,
+                };
+                Call::Set((0..count.parse().ok()?).map(|_| cell(lines.next()?)).collect::<Option<_>>()?)
+            }
             ["row", buffer, count] => {
                 let row = (0..count.parse().ok()?).map(|_| record(&lines.next()?)).collect::<Option<_>>()?;
                 Call::Row(row, buffer.parse().ok()?)
@@ -451,7 +588,7 @@ pub fn read(text: &str) -> Option<List> {
             _ => return None,
         });
     }
-    Some(List { terms, calls })
+    Some(List { calls })
 }
 
 // Making a failing list small.
@@ -513,12 +650,33 @@ pub fn shrink(list: &List, mut tries: usize, mut fails: impl FnMut(&List) -> boo
                 attempt(&mut list, candidate);
             }
         }
+        // Numbers set out.
+        for i in 0..list.calls.len() {
+            let Call::Set(cells) = &list.calls[i] else { continue };
+            let mut cells = cells.clone();
+            let mut run = cells.len().next_power_of_two();
+            while run >= 1 {
+                let mut end = cells.len();
+                while end > 0 {
+                    let start = end.saturating_sub(run);
+                    let mut less = cells.clone();
+                    less.drain(start..end);
+                    let mut candidate = list.clone();
+                    candidate.calls[i] = Call::Set(less.clone());
+                    if attempt(&mut list, candidate) {
+                        cells = less;
+                    }
+                    end = start.min(cells.len());
+                }
+                run /= 2;
+            }
+        }
         // Numbers: a sort's unnamed fields to 0, the others smaller.
         for i in 0..list.calls.len() {
             let count = match &list.calls[i] {
                 Call::Post(_) => 1,
                 Call::Row(row, _) => row.len(),
-                Call::Figures(_) => 0,
+                Call::Open(_) | Call::Figures(_) | Call::Set(_) => 0,
             };
             for k in 0..count.min(40) {
                 for field in 1..9 {
@@ -527,7 +685,7 @@ pub fn shrink(list: &List, mut tries: usize, mut fails: impl FnMut(&List) -> boo
                         let e = match &mut candidate.calls[i] {
                             Call::Post(e) => e,
                             Call::Row(row, _) => &mut row[k],
-                            Call::Figures(_) => unreachable!(),
+                            Call::Open(_) | Call::Figures(_) | Call::Set(_) => unreachable!(),
                         };
                         let at = [
                             &mut e.sort, &mut e.day, &mut e.amount, &mut e.number, &mut e.kind, &mut e.usage, &mut e.wh,

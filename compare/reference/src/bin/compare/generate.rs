@@ -3,7 +3,7 @@
 use crate::damage;
 use crate::rng::Rng;
 use reference::calendar::{days_in_month, Date};
-use reference::ledger::{Event, Ledger, Terms, Usage, LAST_DAY, MOST_AMOUNT, MOST_EVENTS, MOST_WH};
+use reference::ledger::{Book, Event, Ledger, Terms, Usage, LAST_DAY, MOST_AMOUNT, MOST_EVENTS, MOST_WH};
 use reference::text::{write_event, write_terms, MOST_BYTES};
 use Event::*;
 

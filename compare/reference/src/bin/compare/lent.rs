@@ -1,78 +1,145 @@
 //! The library under test, with guard bytes around everything lent to it.
 
 use crate::head::*;
+use reference::calendar::Date;
+use reference::numbers::Numbers;
+use reference::rows::Record;
+use reference::text::{self, Progress};
+use std::fmt::Write;
 
 /// The reference's limit, from document 01, is the header's.
-const _: () = assert!(TEXT_MOST == reference::text::MOST_BYTES);
+const _: () = assert!(MAX_TEXT == text::MOST_BYTES);
 
 const GUARD: usize = 64;
 const AROUND: u8 = 0xA5;
 
-/// An account between guard bytes.
+/// Something between guard bytes.
 #[repr(C)]
-pub struct Lent {
+pub struct Guarded<T> {
     before: [u8; GUARD],
-    account: Account,
+    pub held: T,
     after: [u8; GUARD],
 }
 
-impl Lent {
-    pub fn new() -> Box<Lent> {
-        Box::new(Lent { before: [AROUND; GUARD], account: Account([0; ACCOUNT_SIZE]), after: [AROUND; GUARD] })
+impl<T> Guarded<T> {
+    pub fn new(held: T) -> Box<Guarded<T>> {
+        Box::new(Guarded { before: [AROUND; GUARD], held, after: [AROUND; GUARD] })
     }
 
     pub fn guards_stand(&self) -> bool {
         self.before == [AROUND; GUARD] && self.after == [AROUND; GUARD]
     }
-
-    /// The bytes of the account.
-    pub fn bytes(&self) -> Vec<u8> {
-        self.account.0.to_vec()
-    }
-
-    pub fn open(&mut self, terms: Terms, fill: u8) -> u8 {
-        self.account.0.fill(fill);
-        // SAFETY: the call's own memory.
-        unsafe { prepay_open(&mut self.account, terms) }
-    }
-
-    pub fn post(&mut self, event: Event) -> Answer {
-        // SAFETY: an account.
-        unsafe { prepay_post(&mut self.account, event) }
-    }
-
-    /// The row's answer and the lent buffer afterwards, or what else was written.
-    pub fn row(&mut self, row: &[Event], buffer: usize, fill: u8) -> Result<(u8, Vec<u8>), String> {
-        // The row between events that must not be posted, the buffer between guard bytes.
-        let trap = Event { sort: 3, day: 0, amount: 1, ..Event::default() };
-        let mut events = vec![trap];
-        events.extend_from_slice(row);
-        events.push(trap);
-        let as_lent = events.clone();
-        let mut codes = vec![fill; GUARD + buffer + GUARD];
-        // SAFETY: both lie inside their vectors.
-        let answer = unsafe {
-            prepay_row(&mut self.account, events.as_ptr().add(1), row.len(), codes.as_mut_ptr().add(GUARD), buffer)
-        };
-        if events != as_lent {
-            return Err("the row itself was written".into());
-        }
-        if codes[..GUARD].iter().chain(&codes[GUARD + buffer..]).any(|&b| b != fill) {
-            return Err("bytes outside the lent buffer were written".into());
-        }
-        Ok((answer, codes[GUARD..GUARD + buffer].to_vec()))
-    }
-
-    pub fn readings(&self) -> Reading {
-        // SAFETY: an account.
-        unsafe { prepay_readings(&self.account) }
-    }
-
-    pub fn summary(&self, month: u32) -> Figures {
-        // SAFETY: an account.
-        unsafe { prepay_summary(&self.account, month) }
-    }
 }
+
+pub fn lent_terms(terms: &reference::ledger::Terms) -> Terms {
+    let &reference::ledger::Terms { open: Date { year, month, day }, price, connect, cutoff, share } = terms;
+    Terms { year, month, day, price, connect, cutoff, share }
+}
+
+pub fn lent_event(record: &Record) -> Event {
+    let &Record { sort, day, amount, number, kind, usage, wh, from, to } = record;
+    Event { sort, day, amount, number, kind, usage, wh, from, to }
+}
+
+/// The row's answer and the lent buffer afterwards, or what else was written.
+pub fn guarded_row(account: &mut Numbers, events: &[Event], buffer: usize, fill: u8) -> Result<(u8, Vec<u8>), String> {
+    // The row between events that must not be posted, the buffer between guard bytes.
+    let trap = [Event { sort: 3, day: 0, amount: 1, ..Event::default() }];
+    let lent = [&trap, events, &trap].concat();
+    let as_lent = lent.clone();
+    let mut codes = vec![fill; GUARD + buffer + GUARD];
+    let answer = row(account, &lent[1..=events.len()], &mut codes[GUARD..GUARD + buffer]);
+    if lent != as_lent {
+        return Err("the row itself was written".into());
+    }
+    if codes[..GUARD].iter().chain(&codes[GUARD + buffer..]).any(|&b| b != fill) {
+        return Err("bytes outside the lent buffer were written".into());
+    }
+    Ok((answer, codes[GUARD..GUARD + buffer].to_vec()))
+}
+
+/// What stands behind a text in memory: read by mistake, it would be an event.
+const BEHIND: &[u8] = b"0\nday=0\ndo=warn\nday=0\ndo=warn\n";
+
+// A text, event by event.
+
+/// What stands in the memory of terms and of an event before they are read.
+const NO_TERMS: Terms = Terms { year: 2001, month: 2, day: 3, price: 4, connect: 5, cutoff: 6, share: 7 };
+const NO_EVENT: Event = Event { sort: 12, day: 401, amount: 2, number: 3, kind: 4, usage: 5, wh: 6, from: 7, to: 8 };
+
+fn alike<T: PartialEq + std::fmt::Debug>(call: &str, good: T, got: T, guards_stand: bool) -> Result<(), String> {
+    if good != got {
+        return Err(format!("{call}: reference {good:?}, tested {got:?}"));
+    }
+    if !guards_stand {
+        return Err(format!("{call}: bytes around what was lent were written"));
+    }
+    Ok(())
+}
+
+/// One call of prepay_read_event, held to the reference: its answer and the event.
+fn next_event(text: &[u8], reader: &mut Guarded<Reader>) -> Result<(u8, Event), String> {
+    let mut event = Guarded::new(NO_EVENT);
+    let mut at = Progress { place: reader.held.place, code: reader.held.code };
+    let (code, read) = text::read_event(text, &mut at);
+    let good = read.map_or(NO_EVENT, |(day, e)| lent_event(&Record::of(day, e)));
+    let got = read_event(text, &mut reader.held, &mut event.held);
+    let guards = reader.guards_stand() && event.guards_stand();
+    alike("prepay_read_event", (code, Reader { place: at.place, code: at.code }, good), (got, reader.held, event.held), guards)?;
+    Ok((code, good))
+}
+
+/// What `prepay` prints for a text, by reading and posting it event by event; or where a reading call differs.
+pub fn by_events(text: &[u8]) -> Result<Vec<u8>, String> {
+    let lent = [text, BEHIND].concat();
+    let text = &lent[..text.len()];
+    // Readers that no call left: any place, any code.
+    for (place, code) in [(0, 0), (text.len() / 3, 0), (text.len() * 2 / 3, 0), (text.len(), 0), (text.len() + 1, 0), (1 << 31, 0)]
+        .into_iter()
+        .chain([1, 14, 15, 16, 254, 255, 256, 511, 1 << 31].map(|code| (text.len() / 2, code)))
+    {
+        next_event(text, &mut Guarded::new(Reader { place: place as u32, code }))?;
+    }
+
+    let mut reader = Guarded::new(Reader { place: 7, code: 8 });
+    let mut terms = Guarded::new(NO_TERMS);
+    let (at, read) = text::read_terms(text);
+    let good = (at.code as u8, Reader { place: at.place, code: at.code }, read.map_or(NO_TERMS, |t| lent_terms(&t)));
+    let got = read_terms(text, &mut reader.held, &mut terms.held);
+    alike("prepay_read_terms", good, (got, reader.held, terms.held), reader.guards_stand() && terms.guards_stand())?;
+
+    let mut out = String::new();
+    let mut account = Guarded::new(crate::calls::filled(0xEE));
+    let code = if got == 0 { open(&mut account.held, &terms.held) } else { got };
+    if code != 0 {
+        next_event(text, &mut reader)?;
+        writeln!(out, "n=0 code={code} value=0 balance=0 plan=0").unwrap();
+        return Ok(out.into_bytes());
+    }
+    for n in 1.. {
+        let (read, event) = next_event(text, &mut reader)?;
+        if read == END {
+            break;
+        }
+        let answer = if read == 0 { post(&mut account.held, &event) } else { Answer { code: read as u64, value: 0 } };
+        let r = readings(&account.held);
+        writeln!(out, "n={n} code={} value={} balance={} plan={}", answer.code, answer.value, r.balance, r.plan).unwrap();
+        if read != 0 {
+            break;
+        }
+    }
+    // After 15 or the end, the same again.
+    next_event(text, &mut reader)?;
+    next_event(text, &mut reader)?;
+    let r = readings(&account.held);
+    writeln!(out, "settled={} estimates={}", r.settled, r.estimates).unwrap();
+    if !account.guards_stand() {
+        return Err("bytes around the account were written".into());
+    }
+    Ok(out.into_bytes())
+}
+
+// A text, printed whole.
 
 /// Which of the two text calls.
 #[derive(Clone, Copy, Debug, PartialEq, Eq)]
@@ -97,8 +164,6 @@ pub struct Room {
 }
 
 const FILL: u8 = 0xEE;
-/// What stands behind a text in memory: read by mistake, it would be an event.
-const BEHIND: &[u8] = b"0\nday=0\ndo=warn\nday=0\ndo=warn\n";
 
 impl Room {
     pub fn new() -> Room {
@@ -146,10 +211,9 @@ impl Room {
     fn call(&mut self, printer: Printer, text: &[u8], out_len: usize) -> usize {
         let lent = [text, BEHIND].concat();
         let call = match printer {
-            Printer::Transcript => prepay_transcript,
-            Printer::Statement => prepay_statement,
+            Printer::Transcript => transcript,
+            Printer::Statement => statement,
         };
-        // SAFETY: both lie inside their vectors.
-        unsafe { call(lent.as_ptr(), text.len(), self.bytes.as_mut_ptr().add(GUARD), out_len) }
+        call(&lent[..text.len()], &mut self.bytes[GUARD..GUARD + out_len])
     }
 }

@@ -1,12 +1,12 @@
 //! Feeds the same event texts to the reference and to the programs and calls
 //! under test, and compares what they print, byte for byte; and the same lists
-//! of calls (single posts, rows) to the reference's ledger and to the library.
+//! of calls (openings, single posts, rows) to the reference's ledger and to the library.
 
 mod calls;
+mod cells;
 mod damage;
 mod execute;
 mod generate;
-#[path = "../../../../../include/head.rs"]
 mod head;
 mod lent;
 mod rng;
@@ -15,7 +15,7 @@ mod stats;
 
 use calls::{Difference, List};
 use execute::{End, Feed, Output, Runner};
-use lent::{Lent, Printer, Room};
+use lent::{by_events, Guarded, Printer, Room};
 use rng::Rng;
 use std::cell::RefCell;
 use std::collections::BTreeMap;
@@ -122,6 +122,8 @@ fn options() -> Options {
 enum Side {
     Program { reference: PathBuf, tested: PathBuf },
     Library(Printer),
+    /// Read and posted event by event.
+    Events,
 }
 
 /// A reference and what must print the same.
@@ -155,7 +157,7 @@ impl Bench {
     fn good(&self, pair: &Pair, text: &[u8], feed: Feed) -> Output {
         match &pair.side {
             Side::Program { reference, .. } => self.program(reference, text, feed),
-            Side::Library(_) => {
+            Side::Library(_) | Side::Events => {
                 Output { bytes: (pair.print)(&reference::text::run(text)).into_bytes(), end: End::Exit(0) }
             }
         }
@@ -163,12 +165,14 @@ impl Bench {
 
     /// What the side under test makes of it.
     fn tested(&self, pair: &Pair, text: &[u8], feed: Feed) -> Output {
-        match &pair.side {
-            Side::Program { tested, .. } => self.program(tested, text, feed),
-            Side::Library(printer) => match self.room.borrow_mut().print(*printer, text, text.len() % 130) {
-                Ok(bytes) => Output { bytes, end: End::Exit(0) },
-                Err(what) => Output { bytes: Vec::new(), end: End::Wrong(what) },
-            },
+        let printed = match &pair.side {
+            Side::Program { tested, .. } => return self.program(tested, text, feed),
+            Side::Library(printer) => self.room.borrow_mut().print(*printer, text, text.len() % 130),
+            Side::Events => by_events(text),
+        };
+        match printed {
+            Ok(bytes) => Output { bytes, end: End::Exit(0) },
+            Err(what) => Output { bytes: Vec::new(), end: End::Wrong(what) },
         }
     }
 }
@@ -256,7 +260,7 @@ fn report(o: &Options, bench: &Bench, pair: &Pair, name: &str, text: &[u8], feed
 }
 
 fn report_list(o: &Options, name: &str, list: &List, found: &Difference) {
-    let mut account = Lent::new();
+    let mut account = Guarded::new(calls::filled(0));
     println!("  call {} of {}: {}", found.call + 1, list.calls.len(), found.what);
     let started = Instant::now();
     let small = calls::shrink(list, 20_000, |l| {
@@ -305,6 +309,7 @@ fn main() {
     let mut pairs = vec![
         Pair { name: "prepay_transcript", side: Side::Library(Printer::Transcript), print: reference::text::print },
         Pair { name: "prepay_statement", side: Side::Library(Printer::Statement), print: reference::summary::print },
+        Pair { name: "prepay_read_event", side: Side::Events, print: reference::text::print },
     ];
     let program = |name: &str, tested: &PathBuf| Side::Program { reference: here.join(name), tested: tested.clone() };
     if let Some(tested) = &o.prepay {
@@ -318,7 +323,13 @@ fn main() {
         match &p.side {
             Side::Program { reference, tested } => println!("{}: {} against {}", p.name, tested.display(), reference.display()),
             Side::Library(_) => println!("{}: the library's call against the reference", p.name),
+            Side::Events => println!("{}: each call, and the text posted event by event, against the reference", p.name),
         }
+    }
+
+    if head::version() as usize != head::VERSION {
+        println!("\nDIFFERENCE: the header is version {}, the library {}", head::VERSION, head::version());
+        exit(1);
     }
 
     if let Some(path) = &o.text {
@@ -339,7 +350,7 @@ fn main() {
     }
     if let Some(path) = &o.calls {
         let list = calls::read(&std::fs::read_to_string(path).expect("calls")).expect("a list of calls");
-        let found = calls::run(&list, &mut Lent::new(), None);
+        let found = calls::run(&list, &mut Guarded::new(calls::filled(0)), None);
         match &found {
             Some(d) => println!("calls: DIFFERENT, call {}: {}", d.call + 1, d.what),
             None => println!("calls: same, {} calls", list.calls.len()),
@@ -359,7 +370,7 @@ fn main() {
     };
 
     let mut call_stats = stats::CallStats::default();
-    let mut account = Lent::new();
+    let mut account = Guarded::new(calls::filled(0));
     let (mut text_time, mut list_time) = (Duration::ZERO, Duration::ZERO);
     let mut stats = stats::Stats::default();
     let mut ends: BTreeMap<(&str, End), u64> = BTreeMap::new();

@@ -1,6 +1,7 @@
 //! What the texts reached, counted on the reference's side.
 
-use reference::ledger::{Entry, Event, Ledger, Usage};
+use reference::ledger::{Book, Entry, Event, Ledger, Usage};
+use reference::numbers::Numbers;
 use reference::rows::Record;
 use reference::text::{Run, MOST_BYTES};
 use std::collections::BTreeMap;
@@ -245,21 +246,64 @@ pub struct CallStats {
     pub codes: [u64; 17],
     /// By sort, the last one being no sort.
     pub by_sort: [[u64; 15]; 12],
+    /// How often, and how many, numbers were changed by another hand; answers to events after that.
+    pub sets: u64,
+    pub set_cells: u64,
+    pub damaged: [u64; 15],
+    /// What such an account had, at single posts.
+    pub odd: BTreeMap<&'static str, u64>,
 }
 
 impl CallStats {
-    pub fn note_open(&mut self, code: u8) {
-        self.opened[code as usize] += 1;
-    }
-
-    pub fn note_event(&mut self, record: &Record, code: u8, in_row: bool) {
+    pub fn note_event(&mut self, record: &Record, code: u8, in_row: bool, damaged: bool) {
         *(if in_row { &mut self.row_events } else { &mut self.posts }) += 1;
+        self.damaged[code as usize] += damaged as u64;
         self.codes[code as usize] += 1;
         let sort = record.event().map_or(11, sort);
         self.by_sort[sort][code as usize] += 1;
     }
 
-    pub fn note_row(&mut self, row: &[Record], buffer: usize, answer: u8, codes: &[u8]) {
+    /// `n` are the numbers just before the event, on whose account another hand has been.
+    pub fn look(&mut self, n: &Numbers, record: &Record, code: u8) {
+        let mut odd = |name, seen: bool| *self.odd.entry(name).or_default() += seen as u64;
+        let t = &n.totals;
+        let most = 1 << 60;
+        odd("no account by its terms", !n.terms().within_limits());
+        odd("no account by its count", t.count > 128);
+        odd("no account by a total", [t.credit, t.debit, t.plan, t.standing].iter().any(|&sum| sum > most));
+        odd("accepted, a total at 2^60", code == 0 && [t.credit, t.debit, t.plan, t.standing].contains(&most));
+        odd("accepted, a total in reach of 2^60", code == 0 && t.credit.max(t.debit) >= most - 10_000_000);
+        odd("accepted, `on` neither 0 nor 1", code == 0 && t.on > 1);
+        let ok = code == 0;
+        match record.event() {
+            Some(Reverse { number }) if ok => {
+                let p = n.payments[number as usize];
+                odd("reversed: neither 0 nor 1 before", p.reversed > 1);
+                odd("reversed: part above amount", p.part > p.amount);
+                odd("reversed: day past 399", p.day > 399);
+            }
+            Some(Charge { .. }) => odd("charge refused by its sum alone", code == 1 && n.is_account()),
+            Some(Estimate { usage, .. }) if ok => odd("estimated: a state above 2 before", n.days[usage as usize].state > 2),
+            Some(Read { usage, .. }) if ok => {
+                let day = n.days[usage as usize];
+                odd("read: a state above 2 before", day.state > 2);
+                odd("read: an estimate", day.state == 1);
+                odd("read: an estimate above the standing ones", day.state == 1 && day.cost as u64 > t.standing);
+            }
+            Some(Mark { from, .. }) if ok => odd("marked: other bits there", n.marks[from as usize] > 7),
+            Some(Plan { .. }) if ok => odd("plan of more than 2^32", n.balance() < -(1 << 32)),
+            Some(Disconnect) => {
+                odd("cut", ok);
+                odd("cut, barred, or warned by odd bytes", (ok || code > 12) && {
+                    let x = record.day as usize;
+                    n.marks[x] > 7 || n.warned[x.saturating_sub(7)..x].iter().any(|&w| w > 1)
+                });
+            }
+            _ => {}
+        }
+    }
+
+    pub fn note_row(&mut self, row: &[Record], buffer: usize, answer: u8, codes: &[u8], damaged: bool) {
         self.rows_in_all += 1;
         let kind = match (row.len(), buffer) {
             (0, 0) => "empty, no buffer",
@@ -286,7 +330,7 @@ impl CallStats {
             self.codes[16] += 1;
         } else {
             for (record, &code) in row.iter().zip(codes) {
-                self.note_event(record, code, true);
+                self.note_event(record, code, true, damaged);
             }
         }
     }
@@ -312,6 +356,14 @@ impl CallStats {
         println!("\nanswers by code (1: events of no account; 16: rows; 15 is of texts):");
         for (code, n) in self.codes.iter().enumerate() {
             println!("  code {code:<2} {n:>10}");
+        }
+        println!("\nnumbers put into accounts by another hand: {} times, {} numbers; events on such accounts by code:", self.sets, self.set_cells);
+        for (code, n) in self.damaged.iter().enumerate() {
+            println!("  code {code:<2} {n:>10}");
+        }
+        println!("single posts on such accounts:");
+        for (name, n) in &self.odd {
+            println!("  {name:<42} {n:>9}");
         }
         println!("\nrecords by sort and code (0 is accepted):");
         print!("  {:<10}", "");

@@ -1,0 +1,291 @@
+//! An account as the numbers of include/head.h, read by that header's words: "Any numbers are read as an account".
+//! The same rules as the ledger's are asked of its cells.
+//!
+//! What the header does not say, and is taken so here:
+//! - `balance` is credit less debit, and the settled amount balance less plan plus standing: the comparison takes credit
+//!   and debit by their difference alone;
+//! - `charges` is by month, then kind; bit k - 1 of a day's `marks` is kind k, other bits mean nothing; `warned` 1 is yes;
+//! - a payment on a day past 399 lies in no month; a payment's `part` above its `amount` leaves nothing for the balance;
+//! - a read gives back no more of `standing` than it has.
+
+use crate::calendar::Date;
+use crate::ledger::{Book, Entry, Event, Ledger, Payment, Terms, Usage, LAST_DAY};
+use crate::rows::Head;
+use crate::summary::LAST_MONTH;
+
+const DAYS: usize = LAST_DAY as usize + 1;
+const PAYMENTS: usize = 128;
+/// A total above it is no account's.
+const MOST_TOTAL: u64 = 1 << 60;
+
+#[repr(C)]
+#[derive(Clone, Copy, Debug, Default, PartialEq, Eq)]
+pub struct Totals {
+    pub credit: u64,
+    pub debit: u64,
+    pub plan: u64,
+    pub standing: u64,
+    pub count: u32,
+    pub events: u32,
+    pub last: u32,
+    pub on: u32,
+}
+
+#[repr(C)]
+#[derive(Clone, Copy, Debug, Default, PartialEq, Eq)]
+pub struct TermCells {
+    pub year: u32,
+    pub month: u32,
+    pub day: u32,
+    pub price: u32,
+    pub connect: u32,
+    pub cutoff: u32,
+    pub share: u32,
+}
+
+#[repr(C)]
+#[derive(Clone, Copy, Debug, Default, PartialEq, Eq)]
+pub struct DayCells {
+    pub state: u32,
+    pub wh: u32,
+    pub cost: u32,
+}
+
+#[repr(C)]
+#[derive(Clone, Copy, Debug, Default, PartialEq, Eq)]
+pub struct PaymentCells {
+    pub day: u32,
+    pub amount: u32,
+    pub part: u32,
+    pub reversed: u32,
+}
+
+#[repr(C)]
+#[derive(Clone, Copy, Debug, PartialEq, Eq)]
+pub struct Numbers {
+    pub totals: Totals,
+    pub charges: [u64; 5 * (LAST_MONTH as usize + 1)],
+    pub terms: TermCells,
+    pub days: [DayCells; DAYS],
+    pub payments: [PaymentCells; PAYMENTS],
+    pub spare: u32,
+    pub marks: [u8; DAYS],
+    pub warned: [u8; DAYS],
+}
+
+/// The readings.
+#[derive(Clone, Copy, Debug, PartialEq, Eq)]
+pub struct Readings {
+    pub balance: i64,
+    pub settled: i64,
+    pub plan: u64,
+    pub estimates: u64,
+    pub service: bool,
+}
+
+impl Numbers {
+    /// A fresh account's.
+    pub fn fresh(terms: Terms) -> Numbers {
+        let Terms { open: Date { year, month, day }, price, connect, cutoff, share } = terms;
+        Numbers {
+            totals: Totals::default(),
+            charges: [0; 75],
+            terms: TermCells { year, month, day, price, connect, cutoff, share },
+            days: [DayCells::default(); DAYS],
+            payments: [PaymentCells::default(); PAYMENTS],
+            spare: 0,
+            marks: [0; DAYS],
+            warned: [0; DAYS],
+        }
+    }
+
+    /// Answers 0 and is a fresh account's; or 1, and every number stays, where the terms are outside their limits.
+    pub fn open(&mut self, terms: Terms) -> u8 {
+        if !terms.within_limits() {
+            return 1;
+        }
+        *self = Numbers::fresh(terms);
+        0
+    }
+
+    /// The numbers of a ledger.
+    pub fn of(ledger: &Ledger) -> Numbers {
+        let mut n = Numbers::fresh(ledger.terms);
+        n.totals = Totals {
+            credit: ledger.balance.max(0) as u64,
+            debit: (-ledger.balance).max(0) as u64,
+            plan: ledger.plan as u64,
+            standing: ledger.standing_estimates() as u64,
+            count: ledger.payment_count() as u32,
+            events: ledger.list.len() as u32,
+            last: ledger.last_day(),
+            on: ledger.service as u32,
+        };
+        for (i, e) in ledger.payments().enumerate() {
+            let amount = (e.to_plan + e.to_balance) as u32;
+            n.payments[i] = PaymentCells { day: e.day, amount, part: e.to_plan as u32, reversed: ledger.is_reversed(i as u32) as u32 };
+        }
+        for day in 0..=LAST_DAY {
+            n.days[day as usize] = match ledger.usage(day) {
+                Usage::Blank => DayCells::default(),
+                Usage::Estimated { wh, cost } => DayCells { state: 1, wh, cost: cost as u32 },
+                Usage::Metered { wh, cost } => DayCells { state: 2, wh, cost: cost as u32 },
+            };
+        }
+        for e in &ledger.list {
+            match e.event {
+                Event::Charge { kind, amount } => n.charges[cell(&ledger.terms, e.day, kind)] += amount as u64,
+                Event::Warn => n.warned[e.day as usize] = 1,
+                Event::Mark { kind, from, to } => n.marks[from as usize..=to as usize].iter_mut().for_each(|m| *m |= 1 << (kind - 1)),
+                _ => {}
+            }
+        }
+        n
+    }
+
+    fn totals_too_large(&self) -> bool {
+        let Totals { credit, debit, plan, standing, .. } = self.totals;
+        [credit, debit, plan, standing].iter().any(|&t| t > MOST_TOTAL)
+    }
+
+    pub fn readings(&self) -> Readings {
+        let Totals { credit, debit, plan, standing, on, .. } = self.totals;
+        let balance = if credit > MOST_TOTAL || debit > MOST_TOTAL { 0 } else { self.balance() };
+        let settled = if self.totals_too_large() { 0 } else { balance - plan as i64 + standing as i64 };
+        Readings { balance, settled, plan, estimates: standing, service: on == 1 }
+    }
+}
+
+fn cell(terms: &Terms, day: u32, kind: u32) -> usize {
+    (terms.month_of(day) * 5 + kind - 1) as usize
+}
+
+/// Of numbers that are an account.
+impl Book for Numbers {
+    fn is_account(&self) -> bool {
+        self.terms().within_limits() && self.totals.count <= PAYMENTS as u32 && !self.totals_too_large()
+    }
+
+    fn has_room(&self, x: u32, event: Event) -> bool {
+        match event {
+            Event::Charge { kind, .. } => self.charges[cell(&self.terms(), x, kind)] <= MOST_TOTAL,
+            _ => true,
+        }
+    }
+
+    fn terms(&self) -> Terms {
+        let TermCells { year, month, day, price, connect, cutoff, share } = self.terms;
+        Terms { open: Date { year, month, day }, price, connect, cutoff, share }
+    }
+
+    fn balance(&self) -> i64 {
+        self.totals.credit as i64 - self.totals.debit as i64
+    }
+
+    fn plan(&self) -> i64 {
+        self.totals.plan as i64
+    }
+
+    fn service(&self) -> bool {
+        self.totals.on == 1
+    }
+
+    fn last_day(&self) -> u32 {
+        self.totals.last
+    }
+
+    fn events(&self) -> usize {
+        self.totals.events as usize
+    }
+
+    fn payment_count(&self) -> usize {
+        self.totals.count as usize
+    }
+
+    fn parts(&self, number: u32) -> Option<(i64, i64)> {
+        let paid = &self.payments[..self.payment_count()];
+        paid.get(number as usize).map(|p| (p.part as i64, (p.amount as i64 - p.part as i64).max(0)))
+    }
+
+    fn is_reversed(&self, number: u32) -> bool {
+        self.payments[number as usize].reversed == 1
+    }
+
+    fn usage(&self, day: u32) -> Usage {
+        let DayCells { state, wh, cost } = self.days[day as usize];
+        match state {
+            1 => Usage::Estimated { wh, cost: cost as i64 },
+            2 => Usage::Metered { wh, cost: cost as i64 },
+            _ => Usage::Blank,
+        }
+    }
+
+    fn is_warned(&self, x: u32) -> bool {
+        (1..=7).any(|age| age <= x && self.warned[(x - age) as usize] == 1)
+    }
+
+    fn is_covered(&self, day: u32) -> bool {
+        self.marks[day as usize] & 7 != 0
+    }
+
+    fn is_weather(&self, day: u32) -> bool {
+        self.marks[day as usize] & 1 != 0
+    }
+
+    fn list_payments(&self) -> Vec<Payment> {
+        let paid = &self.payments[..self.payment_count()];
+        paid.iter().map(|p| Payment { day: p.day, amount: p.amount as i64, reversed: p.reversed == 1 }).collect()
+    }
+
+    fn charges(&self, month: u32, _has: &dyn Fn(u32) -> bool) -> [u64; 5] {
+        let first = 5 * month as usize;
+        self.charges[first..first + 5].try_into().unwrap()
+    }
+
+    /// The cells that the event touches; all others stay as they were.
+    fn enter(&mut self, entry: Entry, balance: i64, plan: i64, service: bool) {
+        use Event::*;
+        let x = entry.day;
+        let rise = balance - Book::balance(self);
+        let terms = Book::terms(self);
+        let t = &mut self.totals;
+        *(if rise > 0 { &mut t.credit } else { &mut t.debit }) += rise.unsigned_abs();
+        t.plan = plan as u64;
+        t.events += 1;
+        t.last = x;
+        match entry.event {
+            Pay { amount } => {
+                self.payments[t.count as usize] = PaymentCells { day: x, amount, part: entry.to_plan as u32, reversed: 0 };
+                t.count += 1;
+            }
+            Reverse { number } => self.payments[number as usize].reversed = 1,
+            Credit { .. } | Plan { .. } => {}
+            Charge { kind, amount } => self.charges[cell(&terms, x, kind)] += amount as u64,
+            Estimate { usage, wh } => {
+                let cost = terms.cost(wh) as u32;
+                t.standing += cost as u64;
+                self.days[usage as usize] = DayCells { state: 1, wh, cost };
+            }
+            Read { usage, wh } => {
+                let day = &mut self.days[usage as usize];
+                if day.state == 1 {
+                    t.standing = t.standing.saturating_sub(day.cost as u64);
+                }
+                *day = DayCells { state: 2, wh, cost: terms.cost(wh) as u32 };
+            }
+            Warn => self.warned[x as usize] = 1,
+            Mark { kind, from, to } => {
+                for day in from..=to {
+                    self.marks[day as usize] |= 1 << (kind - 1);
+                }
+            }
+            Disconnect | Connect => t.on = service as u32,
+        }
+    }
+}
+
+impl Head for Numbers {
+    fn book(&mut self) -> Option<&mut impl Book> {
+        Some(self)
+    }
+}
