@@ -43,6 +43,18 @@ pub struct TermCells {
     pub share: u32,
 }
 
+impl TermCells {
+    pub fn of(terms: &Terms) -> TermCells {
+        let &Terms { open: Date { year, month, day }, price, connect, cutoff, share } = terms;
+        TermCells { year, month, day, price, connect, cutoff, share }
+    }
+
+    pub fn terms(&self) -> Terms {
+        let &TermCells { year, month, day, price, connect, cutoff, share } = self;
+        Terms { open: Date { year, month, day }, price, connect, cutoff, share }
+    }
+}
+
 #[repr(C)]
 #[derive(Clone, Copy, Debug, Default, PartialEq, Eq)]
 pub struct DayCells {
@@ -86,11 +98,10 @@ pub struct Readings {
 impl Numbers {
     /// A fresh account's.
     pub fn fresh(terms: Terms) -> Numbers {
-        let Terms { open: Date { year, month, day }, price, connect, cutoff, share } = terms;
         Numbers {
             totals: Totals::default(),
             charges: [0; 75],
-            terms: TermCells { year, month, day, price, connect, cutoff, share },
+            terms: TermCells::of(&terms),
             days: [DayCells::default(); DAYS],
             payments: [PaymentCells::default(); PAYMENTS],
             spare: 0,
@@ -174,8 +185,7 @@ impl Book for Numbers {
     }
 
     fn terms(&self) -> Terms {
-        let TermCells { year, month, day, price, connect, cutoff, share } = self.terms;
-        Terms { open: Date { year, month, day }, price, connect, cutoff, share }
+        self.terms.terms()
     }
 
     fn balance(&self) -> i64 {

@@ -6,6 +6,7 @@ use crate::ledger::{Answer, Book, Event, Ledger, Terms};
 use crate::summary::{summary, Summary};
 
 /// One event record. The fields that its sort does not name are not looked at.
+#[repr(C)]
 #[derive(Clone, Copy, Debug, Default, PartialEq, Eq)]
 pub struct Record {
     pub sort: u32,

@@ -2,12 +2,10 @@
 //! in its place selftest.sh gives the comparison a reference with a mistake.
 //! The account calls work on the numbers in the caller's memory (src/numbers.rs), the text calls on a ledger.
 
-use reference::calendar::Date;
-use reference::ledger::Terms;
-use reference::numbers::Numbers;
+use reference::numbers::{Numbers, TermCells};
 use reference::rows::{Head, Record};
 use reference::summary;
-use reference::text::{self, Progress};
+use reference::text;
 use std::panic::{catch_unwind, AssertUnwindSafe};
 
 #[path = "bin/compare/head.rs"]
@@ -27,30 +25,23 @@ pub extern "C" fn prepay_version() -> u32 {
 }
 
 #[no_mangle]
-pub unsafe extern "C" fn prepay_open(account: &mut Numbers, t: &c::Terms) -> u8 {
-    let open = Date::new(t.year, t.month, t.day);
-    let terms = Terms { open, price: t.price, connect: t.connect, cutoff: t.cutoff, share: t.share };
-    safely(255, || account.open(terms))
-}
-
-fn record(e: &c::Event) -> Record {
-    let &c::Event { sort, day, amount, number, kind, usage, wh, from, to } = e;
-    Record { sort, day, amount, number, kind, usage, wh, from, to }
+pub unsafe extern "C" fn prepay_open(account: &mut Numbers, terms: &c::Terms) -> u8 {
+    safely(255, || account.open(terms.terms()))
 }
 
 #[no_mangle]
 pub unsafe extern "C" fn prepay_post(account: &mut Numbers, event: &c::Event) -> c::Answer {
     safely(c::Answer { code: 255, value: 0 }, || {
-        let answer = account.post(&record(event));
+        let answer = account.post(event);
         c::Answer { code: answer.code as u64, value: answer.value as u64 }
     })
 }
 
 #[no_mangle]
 pub unsafe extern "C" fn prepay_row(account: &mut Numbers, row: *const c::Event, count: usize, codes: *mut u8, codes_len: usize) -> u8 {
-    let row: Vec<Record> = std::slice::from_raw_parts(row, count).iter().map(record).collect();
+    let row = std::slice::from_raw_parts(row, count);
     let codes = std::slice::from_raw_parts_mut(codes, codes_len);
-    safely(255, || account.row(&row, codes))
+    safely(255, || account.row(row, codes))
 }
 
 #[no_mangle]
@@ -89,9 +80,9 @@ pub unsafe extern "C" fn prepay_read_terms(text: *const u8, text_len: usize, rea
     let text = std::slice::from_raw_parts(text, text_len);
     safely(254, || {
         let (at, read) = text::read_terms(text);
-        *reader = c::Reader { place: at.place, code: at.code };
-        if let Some(Terms { open: Date { year, month, day }, price, connect, cutoff, share }) = read {
-            *terms = c::Terms { year, month, day, price, connect, cutoff, share };
+        *reader = at;
+        if let Some(read) = read {
+            *terms = TermCells::of(&read);
         }
         at.code as u8
     })
@@ -101,12 +92,9 @@ pub unsafe extern "C" fn prepay_read_terms(text: *const u8, text_len: usize, rea
 pub unsafe extern "C" fn prepay_read_event(text: *const u8, text_len: usize, reader: &mut c::Reader, event: &mut c::Event) -> u8 {
     let text = std::slice::from_raw_parts(text, text_len);
     safely(254, || {
-        let mut at = Progress { place: reader.place, code: reader.code };
-        let (code, read) = text::read_event(text, &mut at);
-        *reader = c::Reader { place: at.place, code: at.code };
+        let (code, read) = text::read_event(text, reader);
         if let Some((day, e)) = read {
-            let Record { sort, day, amount, number, kind, usage, wh, from, to } = Record::of(day, e);
-            *event = c::Event { sort, day, amount, number, kind, usage, wh, from, to };
+            *event = Record::of(day, e);
         }
         code
     })

@@ -105,6 +105,7 @@ pub enum Run {
 }
 
 /// How far a text has been read, as include/head.h has it: the byte at which the next event starts, and 0; or the code that ended the reading.
+#[repr(C)]
 #[derive(Clone, Copy, Debug, PartialEq, Eq)]
 pub struct Progress {
     pub place: u32,

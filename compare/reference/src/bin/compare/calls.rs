@@ -5,13 +5,13 @@
 
 use crate::cells::{self, Cell};
 use crate::generate;
-use crate::head::{self, Event as LentEvent, Figures, Reading};
-use crate::lent::{guarded_row, lent_event, lent_terms, Guarded};
+use crate::head::{self, Figures, Reading};
+use crate::lent::{guarded_row, Guarded};
 use crate::rng::Rng;
 use crate::stats::CallStats;
 use reference::calendar::Date;
 use reference::ledger::Terms;
-use reference::numbers::Numbers;
+use reference::numbers::{Numbers, TermCells};
 use reference::rows::{Books, Head, Record};
 use reference::summary::{self, Summary};
 use reference::text::Reader;
@@ -398,7 +398,7 @@ pub fn run(list: &List, account: &mut Guarded<Numbers>, mut stats: Option<&mut C
                 if books.open(*terms) != code {
                     return differs(i, format!("the reference differs from itself: numbers {code}"));
                 }
-                let got = head::open(&mut account.held, &lent_terms(terms));
+                let got = head::open(&mut account.held, &TermCells::of(terms));
                 if got != code {
                     return differs(i, format!("reference {code}, tested {got}"));
                 }
@@ -407,7 +407,7 @@ pub fn run(list: &List, account: &mut Guarded<Numbers>, mut stats: Option<&mut C
                     second.held = filled(fill);
                     damaged = false;
                 }
-                head::open(&mut second.held, &lent_terms(terms));
+                head::open(&mut second.held, &TermCells::of(terms));
                 if let Some(s) = stats.as_deref_mut() {
                     s.opened[code as usize] += 1;
                 }
@@ -417,12 +417,12 @@ pub fn run(list: &List, account: &mut Guarded<Numbers>, mut stats: Option<&mut C
                 if !damaged && books.post(record) != answer {
                     return differs(i, format!("the reference differs from itself: numbers {answer:?}"));
                 }
-                let got = head::post(&mut account.held, &lent_event(record));
+                let got = head::post(&mut account.held, record);
                 if (answer.code as u64, answer.value as u64) != (got.code, got.value) {
                     return differs(i, format!("reference {answer:?}, tested {got:?}"));
                 }
                 accepted = (answer.code == 0) as usize;
-                head::row(&mut second.held, &[lent_event(record)], &mut [fill]);
+                head::row(&mut second.held, &[*record], &mut [fill]);
                 if let Some(s) = stats.as_deref_mut() {
                     s.note_event(record, answer.code, false, damaged);
                     if damaged {
@@ -433,11 +433,24 @@ pub fn run(list: &List, account: &mut Guarded<Numbers>, mut stats: Option<&mut C
             Call::Row(row, buffer) => {
                 let (mut codes, mut by_books) = (vec![fill; *buffer], vec![fill; *buffer]);
                 let answer = good.row(row, &mut codes);
+                // Event by event on the second account: whether a total comes above 2^60 goes by the sums that the library keeps.
+                for (k, e) in row.iter().enumerate().filter(|_| answer == 0) {
+                    good = second.held;
+                    let one = good.post(e);
+                    let got = head::post(&mut second.held, e);
+                    if (one.code as u64, one.value as u64) != (got.code, got.value) {
+                        return differs(i, format!("event {} of the row posted singly: reference {one:?}, tested {got:?}", k + 1));
+                    }
+                    if let Some(what) = cells::difference(&good, &second.held, (one.code == 0) as usize) {
+                        return differs(i, format!("event {} of the row posted singly: the account's numbers, {what}", k + 1));
+                    }
+                    codes[k] = one.code;
+                    good = second.held;
+                }
                 if !damaged && (books.row(row, &mut by_books), by_books) != (answer, codes.clone()) {
                     return differs(i, format!("the reference differs from itself: numbers {answer} {codes:?}"));
                 }
-                let events: Vec<LentEvent> = row.iter().map(lent_event).collect();
-                match guarded_row(&mut account.held, &events, *buffer, fill) {
+                match guarded_row(&mut account.held, row, *buffer, fill) {
                     Err(what) => return differs(i, what),
                     Ok((got, _)) if got != answer => return differs(i, format!("the row's answer: reference {answer}, tested {got}")),
                     Ok((_, got)) => {
@@ -448,9 +461,6 @@ pub fn run(list: &List, account: &mut Guarded<Numbers>, mut stats: Option<&mut C
                     }
                 }
                 accepted = if answer == 0 { codes[..row.len()].iter().filter(|&&c| c == 0).count() } else { 0 };
-                if answer == 0 {
-                    events.iter().for_each(|e| _ = head::post(&mut second.held, e));
-                }
                 if let Some(s) = stats.as_deref_mut() {
                     s.note_row(row, *buffer, answer, &codes, damaged);
                 }

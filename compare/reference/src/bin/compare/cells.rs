@@ -139,7 +139,7 @@ fn wrong(r: &mut Rng, cell: Cell) -> u64 {
         },
         ("terms", field) => {
             let good = generate::good_terms(r);
-            let t = Numbers::fresh(if r.percent(90) { good } else { generate::edge_terms(r) }).terms;
+            let t = TermCells::of(&if r.percent(90) { good } else { generate::edge_terms(r) });
             let TermCells { year, month, day, price, connect, cutoff, share } = t;
             (match field {
                 "year" => year,

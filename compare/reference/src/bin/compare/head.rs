@@ -1,6 +1,9 @@
-//! include/head.h in Rust: its numbers, structs and calls. The account's struct is the reference's (src/numbers.rs).
+//! include/head.h in Rust: its numbers, structs and calls. The account, terms, event and reader are the reference's.
 
 use reference::numbers::Numbers;
+pub use reference::numbers::TermCells as Terms;
+pub use reference::rows::Record as Event;
+pub use reference::text::Progress as Reader;
 use std::mem::{align_of, offset_of, size_of};
 
 /// The number that head.h defines under a name.
@@ -27,32 +30,6 @@ pub const ACCOUNT_SIZE: usize = defined("#define PREPAY_ACCOUNT_SIZE ");
 const ACCOUNT_ALIGN: usize = defined("#define PREPAY_ACCOUNT_ALIGN ");
 /// PREPAY_END.
 pub const END: u8 = 255;
-
-#[repr(C)]
-#[derive(Clone, Copy, Debug, Default, PartialEq, Eq)]
-pub struct Terms {
-    pub year: u32,
-    pub month: u32,
-    pub day: u32,
-    pub price: u32,
-    pub connect: u32,
-    pub cutoff: u32,
-    pub share: u32,
-}
-
-#[repr(C)]
-#[derive(Clone, Copy, Debug, Default, PartialEq, Eq)]
-pub struct Event {
-    pub sort: u32,
-    pub day: u32,
-    pub amount: u32,
-    pub number: u32,
-    pub kind: u32,
-    pub usage: u32,
-    pub wh: u32,
-    pub from: u32,
-    pub to: u32,
-}
 
 #[repr(C)]
 #[derive(Clone, Copy, Debug, PartialEq, Eq)]
@@ -86,13 +63,6 @@ pub struct Figures {
     pub charges: [u64; 5],
     pub average: u64,
     pub missing: u64,
-}
-
-#[repr(C)]
-#[derive(Clone, Copy, Debug, Default, PartialEq, Eq)]
-pub struct Reader {
-    pub place: u32,
-    pub code: u32,
 }
 
 /// No byte outside a field: the sizes are the sums of the fields'.

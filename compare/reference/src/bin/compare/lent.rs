@@ -1,10 +1,9 @@
 //! The library under test, with guard bytes around everything lent to it.
 
 use crate::head::*;
-use reference::calendar::Date;
 use reference::numbers::Numbers;
 use reference::rows::Record;
-use reference::text::{self, Progress};
+use reference::text;
 use std::fmt::Write;
 
 /// The reference's limit, from document 01, is the header's.
@@ -29,16 +28,6 @@ impl<T> Guarded<T> {
     pub fn guards_stand(&self) -> bool {
         self.before == [AROUND; GUARD] && self.after == [AROUND; GUARD]
     }
-}
-
-pub fn lent_terms(terms: &reference::ledger::Terms) -> Terms {
-    let &reference::ledger::Terms { open: Date { year, month, day }, price, connect, cutoff, share } = terms;
-    Terms { year, month, day, price, connect, cutoff, share }
-}
-
-pub fn lent_event(record: &Record) -> Event {
-    let &Record { sort, day, amount, number, kind, usage, wh, from, to } = record;
-    Event { sort, day, amount, number, kind, usage, wh, from, to }
 }
 
 /// The row's answer and the lent buffer afterwards, or what else was written.
@@ -80,12 +69,12 @@ fn alike<T: PartialEq + std::fmt::Debug>(call: &str, good: T, got: T, guards_sta
 /// One call of prepay_read_event, held to the reference: its answer and the event.
 fn next_event(text: &[u8], reader: &mut Guarded<Reader>) -> Result<(u8, Event), String> {
     let mut event = Guarded::new(NO_EVENT);
-    let mut at = Progress { place: reader.held.place, code: reader.held.code };
+    let mut at = reader.held;
     let (code, read) = text::read_event(text, &mut at);
-    let good = read.map_or(NO_EVENT, |(day, e)| lent_event(&Record::of(day, e)));
+    let good = read.map_or(NO_EVENT, |(day, e)| Record::of(day, e));
     let got = read_event(text, &mut reader.held, &mut event.held);
     let guards = reader.guards_stand() && event.guards_stand();
-    alike("prepay_read_event", (code, Reader { place: at.place, code: at.code }, good), (got, reader.held, event.held), guards)?;
+    alike("prepay_read_event", (code, at, good), (got, reader.held, event.held), guards)?;
     Ok((code, good))
 }
 
@@ -94,9 +83,9 @@ pub fn by_events(text: &[u8]) -> Result<Vec<u8>, String> {
     let lent = [text, BEHIND].concat();
     let text = &lent[..text.len()];
     // Readers that no call left: any place, any code.
-    for (place, code) in [(0, 0), (text.len() / 3, 0), (text.len() * 2 / 3, 0), (text.len(), 0), (text.len() + 1, 0), (1 << 31, 0)]
+    for (place, code) in [(0, 0), (text.len() / 3, 0), (text.len() * 2 / 3, 0), (text.len(), 0), (text.len() + 1, 0), (1 << 31, 0), (u32::MAX as usize, 0)]
         .into_iter()
-        .chain([1, 14, 15, 16, 254, 255, 256, 511, 1 << 31].map(|code| (text.len() / 2, code)))
+        .chain([1, 14, 15, 16, 254, 255, 256, 511, 1 << 31, u32::MAX].map(|code| (text.len() / 2, code)))
     {
         next_event(text, &mut Guarded::new(Reader { place: place as u32, code }))?;
     }
@@ -104,7 +93,7 @@ pub fn by_events(text: &[u8]) -> Result<Vec<u8>, String> {
     let mut reader = Guarded::new(Reader { place: 7, code: 8 });
     let mut terms = Guarded::new(NO_TERMS);
     let (at, read) = text::read_terms(text);
-    let good = (at.code as u8, Reader { place: at.place, code: at.code }, read.map_or(NO_TERMS, |t| lent_terms(&t)));
+    let good = (at.code as u8, at, read.map_or(NO_TERMS, |t| Terms::of(&t)));
     let got = read_terms(text, &mut reader.held, &mut terms.held);
     alike("prepay_read_terms", good, (got, reader.held, terms.held), reader.guards_stand() && terms.guards_stand())?;
 
