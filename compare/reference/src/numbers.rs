@@ -2,6 +2,7 @@
 //! The same rules as the ledger's are asked of its cells.
 //!
 //! What the header does not say, and is taken so here:
+//! - a fresh account's numbers are 0 but for the terms;
 //! - `balance` is credit less debit, and the settled amount balance less plan plus standing: the comparison takes credit
 //!   and debit by their difference alone;
 //! - `charges` is by month, then kind; bit k - 1 of a day's `marks` is kind k, other bits mean nothing; `warned` 1 is yes;
@@ -9,39 +10,13 @@
 //! - a read gives back no more of `standing` than it has.
 
 use crate::calendar::Date;
+pub use crate::head::{Account as Numbers, Day as DayCells, Payment as PaymentCells, Reading, Terms as TermCells, Totals};
+use crate::head::{DAYS, MAX_PAYMENTS};
 use crate::ledger::{Book, Entry, Event, Ledger, Payment, Terms, Usage, LAST_DAY};
 use crate::rows::Head;
-use crate::summary::LAST_MONTH;
 
-const DAYS: usize = LAST_DAY as usize + 1;
-const PAYMENTS: usize = 128;
 /// A total above it is no account's.
 const MOST_TOTAL: u64 = 1 << 60;
-
-#[repr(C)]
-#[derive(Clone, Copy, Debug, Default, PartialEq, Eq)]
-pub struct Totals {
-    pub credit: u64,
-    pub debit: u64,
-    pub plan: u64,
-    pub standing: u64,
-    pub count: u32,
-    pub events: u32,
-    pub last: u32,
-    pub on: u32,
-}
-
-#[repr(C)]
-#[derive(Clone, Copy, Debug, Default, PartialEq, Eq)]
-pub struct TermCells {
-    pub year: u32,
-    pub month: u32,
-    pub day: u32,
-    pub price: u32,
-    pub connect: u32,
-    pub cutoff: u32,
-    pub share: u32,
-}
 
 impl TermCells {
     pub fn of(terms: &Terms) -> TermCells {
@@ -55,46 +30,6 @@ impl TermCells {
     }
 }
 
-#[repr(C)]
-#[derive(Clone, Copy, Debug, Default, PartialEq, Eq)]
-pub struct DayCells {
-    pub state: u32,
-    pub wh: u32,
-    pub cost: u32,
-}
-
-#[repr(C)]
-#[derive(Clone, Copy, Debug, Default, PartialEq, Eq)]
-pub struct PaymentCells {
-    pub day: u32,
-    pub amount: u32,
-    pub part: u32,
-    pub reversed: u32,
-}
-
-#[repr(C)]
-#[derive(Clone, Copy, Debug, PartialEq, Eq)]
-pub struct Numbers {
-    pub totals: Totals,
-    pub charges: [u64; 5 * (LAST_MONTH as usize + 1)],
-    pub terms: TermCells,
-    pub days: [DayCells; DAYS],
-    pub payments: [PaymentCells; PAYMENTS],
-    pub spare: u32,
-    pub marks: [u8; DAYS],
-    pub warned: [u8; DAYS],
-}
-
-/// The readings.
-#[derive(Clone, Copy, Debug, PartialEq, Eq)]
-pub struct Readings {
-    pub balance: i64,
-    pub settled: i64,
-    pub plan: u64,
-    pub estimates: u64,
-    pub service: bool,
-}
-
 impl Numbers {
     /// A fresh account's.
     pub fn fresh(terms: Terms) -> Numbers {
@@ -103,7 +38,7 @@ impl Numbers {
             charges: [0; 75],
             terms: TermCells::of(&terms),
             days: [DayCells::default(); DAYS],
-            payments: [PaymentCells::default(); PAYMENTS],
+            payments: [PaymentCells::default(); MAX_PAYMENTS],
             spare: 0,
             marks: [0; DAYS],
             warned: [0; DAYS],
@@ -159,11 +94,11 @@ impl Numbers {
         [credit, debit, plan, standing].iter().any(|&t| t > MOST_TOTAL)
     }
 
-    pub fn readings(&self) -> Readings {
+    pub fn readings(&self) -> Reading {
         let Totals { credit, debit, plan, standing, on, .. } = self.totals;
         let balance = if credit > MOST_TOTAL || debit > MOST_TOTAL { 0 } else { self.balance() };
         let settled = if self.totals_too_large() { 0 } else { balance - plan as i64 + standing as i64 };
-        Readings { balance, settled, plan, estimates: standing, service: on == 1 }
+        Reading { balance, settled, plan, estimates: standing, service: (on == 1) as u64 }
     }
 }
 
@@ -174,7 +109,7 @@ fn cell(terms: &Terms, day: u32, kind: u32) -> usize {
 /// Of numbers that are an account.
 impl Book for Numbers {
     fn is_account(&self) -> bool {
-        self.terms().within_limits() && self.totals.count <= PAYMENTS as u32 && !self.totals_too_large()
+        self.terms().within_limits() && self.totals.count <= MAX_PAYMENTS as u32 && !self.totals_too_large()
     }
 
     fn has_room(&self, x: u32, event: Event) -> bool {

@@ -6,19 +6,7 @@ use crate::ledger::{Answer, Book, Event, Ledger, Terms};
 use crate::summary::{summary, Summary};
 
 /// One event record. The fields that its sort does not name are not looked at.
-#[repr(C)]
-#[derive(Clone, Copy, Debug, Default, PartialEq, Eq)]
-pub struct Record {
-    pub sort: u32,
-    pub day: u32,
-    pub amount: u32,
-    pub number: u32,
-    pub kind: u32,
-    pub usage: u32,
-    pub wh: u32,
-    pub from: u32,
-    pub to: u32,
-}
+pub use crate::head::Event as Record;
 
 impl Record {
     pub fn of(day: u32, event: Event) -> Record {

@@ -2,16 +2,13 @@
 //! in its place selftest.sh gives the comparison a reference with a mistake.
 //! The account calls work on the numbers in the caller's memory (src/numbers.rs), the text calls on a ledger.
 
+use reference::head as c;
 use reference::numbers::{Numbers, TermCells};
 use reference::rows::{Head, Record};
 use reference::summary;
 use reference::text;
 use std::panic::{catch_unwind, AssertUnwindSafe};
 
-#[path = "bin/compare/head.rs"]
-#[allow(dead_code)]
-mod head;
-use head as c;
 
 /// Runs `f`; a panic of a mutant gives what no call gives.
 fn safely<T>(otherwise: T, f: impl FnOnce() -> T) -> T {
@@ -47,10 +44,7 @@ pub unsafe extern "C" fn prepay_row(account: &mut Numbers, row: *const c::Event,
 #[no_mangle]
 pub unsafe extern "C" fn prepay_readings(account: &Numbers) -> c::Reading {
     let none = c::Reading { balance: 0, settled: 0, plan: 0, estimates: 0, service: 255 };
-    safely(none, || {
-        let r = account.readings();
-        c::Reading { balance: r.balance, settled: r.settled, plan: r.plan, estimates: r.estimates, service: r.service as u64 }
-    })
+    safely(none, || account.readings())
 }
 
 #[no_mangle]

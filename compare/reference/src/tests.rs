@@ -1,4 +1,5 @@
 use crate::calendar::*;
+use crate::head::END;
 use crate::ledger::*;
 use crate::numbers::*;
 use crate::rows::*;
@@ -579,7 +580,7 @@ fn numbers_of_a_ledger() {
         let of = Numbers::of(ledger);
         let r = n.readings();
         assert_eq!((r.balance, r.settled), (ledger.balance, ledger.settled()));
-        assert_eq!((r.plan as i64, r.estimates as i64, r.service), (ledger.plan, ledger.standing_estimates(), ledger.service));
+        assert_eq!((r.plan as i64, r.estimates as i64, r.service == 1), (ledger.plan, ledger.standing_estimates(), ledger.service));
         // Credit and debit by their difference.
         assert_eq!(Numbers { totals: Totals { credit: of.totals.credit, debit: of.totals.debit, ..n.totals }, ..n }, of);
         for m in 0..=15 {
@@ -637,7 +638,7 @@ fn damaged_numbers() {
     n.days[0] = DayCells { state: 9, wh: 8, cost: 7 };
     n.totals.count = 1;
     n.payments[0] = PaymentCells { day: 1_000, amount: 30, part: 10, reversed: 2 };
-    assert!(!n.readings().service && n.usage(0) == Usage::Blank && !n.is_reversed(0));
+    assert!(n.readings().service == 0 && n.usage(0) == Usage::Blank && !n.is_reversed(0));
     assert_eq!(summary::summary(&n, 0).kept_count, 0);
     assert_eq!(n.post(&credit).code, 0);
     assert_eq!((n.totals.on, n.days[0].cost, n.payments[0].reversed), (7, 7, 2));

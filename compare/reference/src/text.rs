@@ -1,6 +1,7 @@
 //! The event text and the lines that `prepay` prints for it.
 
 use crate::calendar::Date;
+use crate::head::END;
 use crate::ledger::{Answer, Book, Event, Ledger, Terms};
 use std::fmt::Write;
 
@@ -104,16 +105,8 @@ pub enum Run {
     Account { ledger: Ledger, steps: Vec<Step> },
 }
 
-/// How far a text has been read, as include/head.h has it: the byte at which the next event starts, and 0; or the code that ended the reading.
-#[repr(C)]
-#[derive(Clone, Copy, Debug, PartialEq, Eq)]
-pub struct Progress {
-    pub place: u32,
-    pub code: u32,
-}
-
-/// The code at the end of a text.
-pub const END: u8 = 255;
+/// How far a text has been read: the byte at which the next event starts, and 0; or the code that ended the reading.
+pub use crate::head::Reader as Progress;
 
 /// The terms, and where the events start; or 15. A text too long has malformed terms.
 pub fn read_terms(text: &[u8]) -> (Progress, Option<Terms>) {
@@ -127,6 +120,9 @@ pub fn read_terms(text: &[u8]) -> (Progress, Option<Terms>) {
 }
 
 /// 0 and the next event, `END`, or 15; after one of these two the same again, and 15 after any other code.
+///
+/// What the header does not say, and is taken so here: the place at 15 stays (`read_terms`: 0); another code stays in the reader; `END` goes
+/// before the text's length; a place past the text is 15, the place at its end `END`.
 pub fn read_event(text: &[u8], at: &mut Progress) -> (u8, Option<(u32, Event)>) {
     if at.code != 0 {
         return (if at.code == END as u32 { END } else { 15 }, None);

@@ -5,11 +5,11 @@
 
 use crate::cells::{self, Cell};
 use crate::generate;
-use crate::head::{self, Figures, Reading};
 use crate::lent::{guarded_row, Guarded};
 use crate::rng::Rng;
 use crate::stats::CallStats;
 use reference::calendar::Date;
+use reference::head::{self, Figures, Reading};
 use reference::ledger::Terms;
 use reference::numbers::{Numbers, TermCells};
 use reference::rows::{Books, Head, Record};
@@ -368,23 +368,13 @@ fn figures(s: &Summary) -> Figures {
 /// What a buffer or an account holds beforehand: nothing that a call writes.
 const FILLS: [u8; 5] = [0xEE, 0xFF, 0x5A, 0x80, 0x77];
 
-/// Memory for an account, of this byte alone.
-pub fn filled(byte: u8) -> Numbers {
-    // SAFETY: numbers alone, any bytes are such.
-    unsafe { std::mem::transmute([byte; head::ACCOUNT_SIZE]) }
-}
-
-fn readings(r: &reference::numbers::Readings) -> Reading {
-    Reading { balance: r.balance, settled: r.settled, plan: r.plan, estimates: r.estimates, service: r.service as u64 }
-}
-
 /// The first difference of the two sides, if there is one. The reference works twice: on the account's numbers as they stand, which it
 /// changes as it should; and from an opening on, until another hand changes them, on its ledger. A second account gets the same calls, its
 /// posts as rows of one event and its rows as posts: its numbers must be the same.
 pub fn run(list: &List, account: &mut Guarded<Numbers>, mut stats: Option<&mut CallStats>) -> Option<Difference> {
     let differs = |call: usize, what: String| Some(Difference { call, what });
     let mut books = Books::default();
-    account.held = filled(FILLS[list.calls.len() % FILLS.len()]);
+    account.held = Numbers::filled(FILLS[list.calls.len() % FILLS.len()]);
     let mut second = Guarded::new(account.held);
     let mut damaged = false;
     for (i, call) in list.calls.iter().enumerate() {
@@ -404,7 +394,7 @@ pub fn run(list: &List, account: &mut Guarded<Numbers>, mut stats: Option<&mut C
                 }
                 accepted = (code == 0) as usize;
                 if code == 0 {
-                    second.held = filled(fill);
+                    second.held = Numbers::filled(fill);
                     damaged = false;
                 }
                 head::open(&mut second.held, &TermCells::of(terms));
@@ -511,7 +501,7 @@ pub fn run(list: &List, account: &mut Guarded<Numbers>, mut stats: Option<&mut C
         if account.held != second.held {
             return differs(i, "a second account, posted to in rows where this one was singly and the other way round, has other numbers".into());
         }
-        let (by_numbers, got) = (readings(&account.held.readings()), head::readings(&account.held));
+        let (by_numbers, got) = (account.held.readings(), head::readings(&account.held));
         if by_numbers != got {
             return differs(i, format!("afterwards: reference {by_numbers:?}, tested {got:?}"));
         }

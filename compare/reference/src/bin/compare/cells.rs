@@ -1,8 +1,8 @@
 //! The numbers of an account by name, and wrong ones put into them.
 
 use crate::generate;
-use crate::head::ACCOUNT_SIZE;
 use crate::rng::Rng;
+use reference::head::ACCOUNT_SIZE;
 use reference::ledger::{Event, Terms};
 use reference::numbers::{DayCells, Numbers, TermCells};
 use reference::rows::Record;
@@ -28,10 +28,15 @@ const GROUPS: [(&str, usize, usize, &[&str]); 9] = [
     ("warned", 1, 400, &["byte"]),
 ];
 
-fn bytes(n: &Numbers) -> &[u8; ACCOUNT_SIZE] {
-    // SAFETY: numbers alone, without padding (head.rs).
-    unsafe { &*(n as *const Numbers).cast() }
-}
+/// Every byte of an account is one of these numbers'.
+const _: () = {
+    let (mut bytes, mut i) = (0, 0);
+    while i < GROUPS.len() {
+        bytes += GROUPS[i].1 * GROUPS[i].2 * GROUPS[i].3.len();
+        i += 1;
+    }
+    assert!(bytes == ACCOUNT_SIZE);
+};
 
 impl Cell {
     fn at(self) -> std::ops::Range<usize> {
@@ -44,16 +49,14 @@ impl Cell {
     pub fn get(self, n: &Numbers) -> u64 {
         let mut number = [0; 8];
         let at = self.at();
-        number[..at.len()].copy_from_slice(&bytes(n)[at]);
+        number[..at.len()].copy_from_slice(&n.bytes()[at]);
         u64::from_le_bytes(number)
     }
 
     pub fn set(self, n: &mut Numbers, value: u64) {
         let at = self.at();
-        // SAFETY: as above; any bytes are numbers.
-        let bytes: &mut [u8; ACCOUNT_SIZE] = unsafe { &mut *(n as *mut Numbers).cast() };
         let width = at.len();
-        bytes[at].copy_from_slice(&value.to_le_bytes()[..width]);
+        n.bytes_mut()[at].copy_from_slice(&value.to_le_bytes()[..width]);
     }
 
     pub fn name(self) -> String {

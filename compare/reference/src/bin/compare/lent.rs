@@ -1,8 +1,6 @@
 //! The library under test, with guard bytes around everything lent to it.
 
-use crate::head::*;
-use reference::numbers::Numbers;
-use reference::rows::Record;
+use reference::head::*;
 use reference::text;
 use std::fmt::Write;
 
@@ -31,7 +29,7 @@ impl<T> Guarded<T> {
 }
 
 /// The row's answer and the lent buffer afterwards, or what else was written.
-pub fn guarded_row(account: &mut Numbers, events: &[Event], buffer: usize, fill: u8) -> Result<(u8, Vec<u8>), String> {
+pub fn guarded_row(account: &mut Account, events: &[Event], buffer: usize, fill: u8) -> Result<(u8, Vec<u8>), String> {
     // The row between events that must not be posted, the buffer between guard bytes.
     let trap = [Event { sort: 3, day: 0, amount: 1, ..Event::default() }];
     let lent = [&trap, events, &trap].concat();
@@ -71,7 +69,7 @@ fn next_event(text: &[u8], reader: &mut Guarded<Reader>) -> Result<(u8, Event), 
     let mut event = Guarded::new(NO_EVENT);
     let mut at = reader.held;
     let (code, read) = text::read_event(text, &mut at);
-    let good = read.map_or(NO_EVENT, |(day, e)| Record::of(day, e));
+    let good = read.map_or(NO_EVENT, |(day, e)| Event::of(day, e));
     let got = read_event(text, &mut reader.held, &mut event.held);
     let guards = reader.guards_stand() && event.guards_stand();
     alike("prepay_read_event", (code, at, good), (got, reader.held, event.held), guards)?;
@@ -98,7 +96,7 @@ pub fn by_events(text: &[u8]) -> Result<Vec<u8>, String> {
     alike("prepay_read_terms", good, (got, reader.held, terms.held), reader.guards_stand() && terms.guards_stand())?;
 
     let mut out = String::new();
-    let mut account = Guarded::new(crate::calls::filled(0xEE));
+    let mut account = Guarded::new(Account::filled(0xEE));
     let code = if got == 0 { open(&mut account.held, &terms.held) } else { got };
     if code != 0 {
         next_event(text, &mut reader)?;

@@ -7,7 +7,6 @@ mod cells;
 mod damage;
 mod execute;
 mod generate;
-mod head;
 mod lent;
 mod rng;
 mod shrink;
@@ -16,6 +15,7 @@ mod stats;
 use calls::{Difference, List};
 use execute::{End, Feed, Output, Runner};
 use lent::{by_events, Guarded, Printer, Room};
+use reference::head;
 use rng::Rng;
 use std::cell::RefCell;
 use std::collections::BTreeMap;
@@ -260,7 +260,7 @@ fn report(o: &Options, bench: &Bench, pair: &Pair, name: &str, text: &[u8], feed
 }
 
 fn report_list(o: &Options, name: &str, list: &List, found: &Difference) {
-    let mut account = Guarded::new(calls::filled(0));
+    let mut account = Guarded::new(head::Account::filled(0));
     println!("  call {} of {}: {}", found.call + 1, list.calls.len(), found.what);
     let started = Instant::now();
     let small = calls::shrink(list, 20_000, |l| {
@@ -350,7 +350,7 @@ fn main() {
     }
     if let Some(path) = &o.calls {
         let list = calls::read(&std::fs::read_to_string(path).expect("calls")).expect("a list of calls");
-        let found = calls::run(&list, &mut Guarded::new(calls::filled(0)), None);
+        let found = calls::run(&list, &mut Guarded::new(head::Account::filled(0)), None);
         match &found {
             Some(d) => println!("calls: DIFFERENT, call {}: {}", d.call + 1, d.what),
             None => println!("calls: same, {} calls", list.calls.len()),
@@ -370,7 +370,7 @@ fn main() {
     };
 
     let mut call_stats = stats::CallStats::default();
-    let mut account = Guarded::new(calls::filled(0));
+    let mut account = Guarded::new(head::Account::filled(0));
     let (mut text_time, mut list_time) = (Duration::ZERO, Duration::ZERO);
     let mut stats = stats::Stats::default();
     let mut ends: BTreeMap<(&str, End), u64> = BTreeMap::new();
