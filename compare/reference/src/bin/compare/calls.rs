@@ -75,6 +75,7 @@ fn pointed(r: &mut Rng) -> List {
             calls.push(Call::Figures(far_month(r)));
         }
     }
+    calls.push(Call::Figures(far_month(r)));
     List { calls }
 }
 
