@@ -1,4 +1,5 @@
--- Demand 3: by induction over the calls, from any account that stands for a ledger.
+-- Demand 3: by induction over the calls, from any account that stands for a ledger; so over lists of the C calls, which are Rattle calls of the
+-- account that the numbers are read as.
 -- Assumes nothing.
 use Prim.Native.Nat.{ℕ}
 use mathlib.Core.Path.{◌≡◌, refl, sym, ap, ◌∙◌}
@@ -12,7 +13,6 @@ use borrow.Author.Tests.{eqb-true}
 use Rattle.terms.specs.Terms.{terms_code}
 use Rattle.terms.specs.declared.Terms.{Terms}
 use Rattle.ledger.specs.declared.Event.{Event}
-use Rattle.ledger.specs.declared.Answer.{Answer}
 use Rattle.ledger.specs.Entries.{usage_day, estimate_cost_of}
 use Rattle.ledger.specs.Rules.{Ledger}
 use Rattle.ledger.specs.Sums.{settled, standing_cost}
@@ -25,16 +25,19 @@ use Rattle.ledger.proofs.Identity.{settled_is}
 use Rattle.ledger.proofs.Disconnect.{disconnect-granted}
 use Rattle.ledger.proofs.Standing.{standing-none}
 use Rattle.account.specs.Record.{fresh}
-use Rattle.account.specs.Step.{Opened, step_of}
+use Rattle.account.specs.Step.{Opened}
 use Rattle.account.specs.declared.Account.{Account}
 use Rattle.refinement.specs.Lists.{account_after}
 use Rattle.refinement.specs.Agree.{Represents}
 use Rattle.refinement.proofs.Lists.{represents-fresh, represents-after, opened-valid}
-use Rattle.posting.specs.Posting.{answer_of, row_of}
+use Rattle.posting.specs.Posting.{row_of}
 use Rattle.posting.proofs.Ledgers.{answer_back, row_back, row-account, posts, posts-row}
 use Rattle.readings.specs.Readings.{balance_of, settled_of, Readings, ShowsReadings}
 use Rattle.readings.proofs.After.{balance-reading, settled-reading, is_balance, is_plan, is_service, is_settled, is_estimates}
-use Rattle.demand.specs.Calls.{Seen, Called, RunsFrom}
+use Rattle.numbers.specs.Numbers.{account_in, numbers_of}
+use Rattle.numbers.specs.declared.Numbers.{Numbers}
+use Rattle.numbers.proofs.Posts.{posts-in, posts-row-in, opens-in}
+use Rattle.demand.specs.Calls.{Seen, Interface, rattle, in_c, Called, RunsFrom}
 use Rattle.demand.specs.Demand3.{shows, codes_in, CallHolds, CallsHold, Demand3}
 
 -- ---- one call, from an account that stands for a ledger
@@ -45,7 +48,7 @@ module _ (t : Terms) (a : Account) (l : Ledger) (s : Represents t a l) where
     back : r ≡ ledger_back t l c
     stands : Represents t b (ledger_called t l c)
 
-  follows : (c : Call) (r : Back) (b : Account) → Called a c r b → Follows c r b
+  follows : (c : Call) (r : Back) (b : Account) → Called rattle a c r b → Follows c r b
   unfolding fed account_after ledger_after
   follows (single e) r b (n, p, h) = record {
     back = h ∙ ap answered p.answer ∙ answer_back t a l s e;
@@ -96,7 +99,8 @@ code-back t l c es e rest h =
     ap (λ (k : List ℕ). get_or k (length es) 1) (codes-back t l c ∙ ap (λ (k : List Event). ledger_codes t l k ++ spare c) h)
     ∙ code_at t es e rest (spare c) 1 l
 
-call-holds : (t : Terms) (l : Ledger) (c : Call) (v : Seen) → Invariant t (ledger_called t l c) → v.back ≡ ledger_back t l c → v.after ≡ shows t (ledger_called t l c) → CallHolds t l c v
+call-holds : (t : Terms) (l : Ledger) (c : Call) (v : Seen) → Invariant t (ledger_called t l c) → v.back ≡ ledger_back t l c
+    → v.after ≡ shows t (ledger_called t l c) → CallHolds t l c v
 call-holds t l c v q b h = record {
   back = b;
   after = h;
@@ -105,9 +109,10 @@ call-holds t l c v q b h = record {
   disconnects = λ es e rest g k d f. rw (b, code-back t l c es e rest g) (disconnect-granted t (ledger_after t l es) e (eqb-true e.sort 10 k) d f);
 }
 
--- ---- every list of calls
+-- ---- every list of Rattle calls
 
-pub calls-hold : (t : Terms) (cs : List Call) (vs : List Seen) (a : Account) (l : Ledger) → Represents t a l → RunsFrom a cs vs → CallsHold t l cs vs
+calls-hold : (t : Terms) (cs : List Call) (vs : List Seen) (a : Account) (l : Ledger) → Represents t a l → RunsFrom rattle a cs vs
+    → CallsHold t l cs vs
 calls-hold t [] [] a l s q = tt
 calls-hold t [] (v ∷ vs) a l s q = absurd q
 calls-hold t (c ∷ cs) [] a l s q = absurd q
@@ -132,25 +137,52 @@ reads a = record {
   standing = record { totals = refl; ledgers = is_estimates a.totals };
 }
 
-runs_of : (cs : List Call) (a : Account) → (vs : List Seen) × RunsFrom a cs vs
-runs_of [] a = ([], tt)
-runs_of (single e ∷ cs) a =
-    let b : Account = (step_of a e).account in
-    let r : Answer = answer_of (step_of a e) in
-    let more = runs_of cs b in
-    (record { back = answered r; after = read b } ∷ more.0, (b, (r, posts a e b r refl refl, refl), reads b, more.1))
-runs_of (row es buffer ∷ cs) a =
-    let w = row_of a es buffer in
-    let more = runs_of cs w.account in
-    (record { back = written w.answer w.bytes; after = read w.account } ∷ more.0, (w.account, (w.answer, w.bytes, posts-row a es buffer w.account w.bytes w.answer refl refl refl, refl), reads w.account, more.1))
+-- by an interface whose every call may leave and show something
+module _ (i : Interface)
+    (call : (k : i.Kept) (c : Call) → (r : Back) × (n : i.Kept) × Called i k c r n) (show : (k : i.Kept) → (v : Readings) × i.Shows k v) where
+  runs_of : (cs : List Call) (k : i.Kept) → (vs : List Seen) × RunsFrom i k cs vs
+  runs_of [] k = ([], tt)
+  runs_of (c ∷ cs) k =
+      let (r, n, p) = call k c in
+      let more = runs_of cs n in
+      (record { back = r; after = (show n).0 } ∷ more.0, (n, p, (show n).1, more.1))
 
--- ---- from what `account::open` promises
+calls : (a : Account) (c : Call) → (r : Back) × (b : Account) × Called rattle a c r b
+calls a (single e) = (_, _, (_, posts a e _ _ refl refl, refl))
+calls a (row es buffer) = (_, _, (_, _, posts-row a es buffer _ _ _ refl refl refl, refl))
 
-pub demand-3 : (t : Terms) → Demand3 t
+pub demand-3 : (t : Terms) → Demand3 rattle t
 unfolding terms_code
 demand-3 t = record {
   every = λ first cs vs (a, is, f, q).
       let s : Represents t a opening = rw (ap (λ (o : Opened). o.account) is) (represents-fresh t (opened-valid t a is)) in
       (shows-is t a opening s first f, calls-hold t cs vs a opening s q);
-  some = λ v cs. let r = runs_of cs (fresh t) in (read (fresh t), r.0, (fresh t, simp v, reads (fresh t), r.1));
+  some = λ v cs. let r = runs_of rattle calls (λ a. (read a, reads a)) cs (fresh t) in (read (fresh t), r.0, (fresh t, simp v, reads (fresh t), r.1));
+}
+
+-- ---- the C calls: each is the Rattle call of the account that the numbers are read as
+
+called-in : (n : Numbers) (c : Call) (r : Back) (m : Numbers) → Called in_c n c r m → Called rattle (account_in n) c r (account_in m)
+called-in n (single e) r m (a, p, h) = (a, p.account, h)
+called-in n (row es buffer) r m (a, bytes, p, h) = (a, bytes, p.account, h)
+
+runs-in : (cs : List Call) (vs : List Seen) (n : Numbers) → RunsFrom in_c n cs vs → RunsFrom rattle (account_in n) cs vs
+runs-in [] [] n q = tt
+runs-in [] (v ∷ vs) n q = absurd q
+runs-in (c ∷ cs) [] n q = absurd q
+runs-in (c ∷ cs) (v ∷ vs) n (m, p, r, q) = (account_in m, called-in n c v.back m p, r, runs-in cs vs m q)
+
+calls-in : (n : Numbers) (c : Call) → (r : Back) × (m : Numbers) × Called in_c n c r m
+calls-in n (single e) = (_, _, (_, posts-in n e _ _ refl refl, refl))
+calls-in n (row es buffer) = (_, _, (_, _, posts-row-in es buffer n _ _ _ refl refl refl, refl))
+
+pub demand-3-in-c : (t : Terms) → Demand3 in_c t
+demand-3-in-c t = record {
+  every = λ first cs vs (n, (before, o), f, q).
+      (demand-3 t).every first cs vs (account_in n, λ i. record { account = o.account refl i; code = o.code i }, f, runs-in cs vs n q);
+  some = λ v cs.
+      let n = numbers_of (fresh t) in
+      let show : (m : Numbers) → (r : Readings) × in_c.Shows m r = λ m. (read (account_in m), reads (account_in m)) in
+      let r = runs_of in_c calls-in show cs n in
+      ((show n).0, r.0, (n, (n, opens-in t n v), (show n).1, r.1));
 }

@@ -10,7 +10,7 @@ use Rattle.ledger.specs.Sums as sums
 use Rattle.ledger.specs.Ledger.{opening, ledger_after}
 use Rattle.ledger.specs.Calls.{Call, Back, answered, written, fed, ledger_called, ledger_back}
 use Rattle.readings.specs.Readings.{Readings}
-use Rattle.demand.specs.Calls.{Seen, Runs}
+use Rattle.demand.specs.Calls.{Seen, Interface, Runs}
 
 -- the readings off the ledger
 abbrev pub shows : Terms → Ledger → Readings
@@ -55,8 +55,9 @@ CallsHold t l [] (v ∷ vs) = ⊥
 CallsHold t l (c ∷ cs) [] = ⊥
 CallsHold t l (c ∷ cs) (v ∷ vs) = CallHolds t l c v × CallsHold t (ledger_called t l c) cs vs
 
-pub record Demand3 (t : Terms) : Type 0 where
+-- The demand, over the calls of an interface.
+pub record Demand3 (i : Interface) (t : Terms) : Type 0 where
   -- "This holds for every list of events of any kinds .., refused ones included, posted from a fresh account singly, in rows or both."
-  pub every : (first : Readings) (cs : List Call) (vs : List Seen) → Runs t first cs vs → (first ≡ shows t opening) × CallsHold t opening cs vs
+  pub every : (first : Readings) (cs : List Call) (vs : List Seen) → Runs i t first cs vs → (first ≡ shows t opening) × CallsHold t opening cs vs
   -- and of every list, from terms within their limits, something is seen
-  pub some : valid_terms t ≡ true → (cs : List Call) → (first : Readings) × (vs : List Seen) × Runs t first cs vs
+  pub some : valid_terms t ≡ true → (cs : List Call) → (first : Readings) × (vs : List Seen) × Runs i t first cs vs
