@@ -5,7 +5,7 @@ use fast::account::*;
 use fast::mix::{self, Rng};
 use fast::text;
 use reference::calendar::Date;
-use reference::ledger::{self, Ledger};
+use reference::ledger::{self, Book, Ledger};
 use std::sync::atomic::{AtomicU64, Ordering::Relaxed};
 
 fn texts() -> u64 {
