@@ -1,5 +1,5 @@
 -- What the calls of the C interface answer: the structs that C gets, as what the record's calls answer.
-use Rattle.std.specs.Prelude.{ℕ, ◌≡◌, ◌×◌}
+use Rattle.std.specs.Prelude.{ℕ, ◌≡◌}
 use Rattle.ledger.specs.declared.Answer.{Answer}
 use Rattle.ledger.specs.declared.Summary.{Summary}
 use Rattle.months.specs.Summary.{IsSummary}

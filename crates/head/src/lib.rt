@@ -68,6 +68,7 @@ impl From<Summary> for FigureNumbers {
     ghost from_gives = { λ s n. n ≡ figure_numbers s };
 
     fn from(month: Summary) -> FigureNumbers {
+        let charges = month.charges;
         FigureNumbers {
             code: u64::from(month.code),
             kept_count: u64::from(month.kept.count),
@@ -78,7 +79,7 @@ impl From<Summary> for FigureNumbers {
             metered_cost: month.metered.cost,
             estimated_wh: month.estimated.wh,
             estimated_cost: month.estimated.cost,
-            charges: month.charges,
+            charges,
             average: month.average,
             missing: u64::from(month.missing),
         }

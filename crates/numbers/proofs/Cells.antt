@@ -13,7 +13,6 @@ use Rattle.moves.specs.declared.Usage.TheVariants.{Blank, Estimated, Metered}
 use Rattle.moves.specs.declared.Day.{Day}
 use Rattle.moves.specs.declared.Payment.{Payment}
 use Rattle.moves.specs.declared.Totals.{Totals}
-use Rattle.account.specs.Record.{fresh}
 use Rattle.account.specs.Step.{usage_at, day_at, with_cells}
 use Rattle.account.specs.declared.Account.{Account}
 use Rattle.numbers.specs.declared.Numbers.{Numbers}

@@ -1,11 +1,9 @@
 -- An account as numbers alone, in the memory of a caller in C: the account that any numbers are read as, the numbers of an account, and what
 -- the calls over them leave and answer.
-use Rattle.std.specs.Prelude.{ℕ, ◌≡◌, Bool, cond, List, [], ◌∷◌, length, map, replicate, set, ltb, eqb}
-use Rattle.calendar.specs.Calendar.{day_count}
+use Rattle.std.specs.Prelude.{ℕ, ◌≡◌, Bool, cond, List, [], ◌∷◌, length, map, set, ltb, eqb}
 use Rattle.marks.specs.Marks.{marked}
 use Rattle.terms.specs.Terms.{terms_code}
 use Rattle.terms.specs.declared.Terms.{Terms}
-use Rattle.ledger.specs.Rules.{max_payments}
 use Rattle.ledger.specs.declared.Answer.{Answer}
 use Rattle.ledger.specs.declared.Event.{Event}
 use Rattle.moves.specs.Moves.{Moved, move_of}
