@@ -426,7 +426,8 @@ pub fn run(list: &List, account: &mut Guarded<Numbers>, mut stats: Option<&mut C
                 let answer = good.row(row, &mut codes);
                 // Event by event on the second account: whether a total comes above 2^60 goes by the sums that the library keeps.
                 for (k, e) in row.iter().enumerate().filter(|_| answer == 0) {
-                    good = second.held;
+                    let was = second.held;
+                    good = was;
                     let one = good.post(e);
                     let got = head::post(&mut second.held, e);
                     if (one.code as u64, one.value as u64) != (got.code, got.value) {
@@ -434,6 +435,9 @@ pub fn run(list: &List, account: &mut Guarded<Numbers>, mut stats: Option<&mut C
                     }
                     if let Some(what) = cells::difference(&good, &second.held, (one.code == 0) as usize) {
                         return differs(i, format!("event {} of the row posted singly: the account's numbers, {what}", k + 1));
+                    }
+                    if one.code != 0 && second.held != was {
+                        return differs(i, format!("event {} of the row posted singly was refused, but the account has changed", k + 1));
                     }
                     codes[k] = one.code;
                     good = second.held;

@@ -81,10 +81,10 @@ pub fn by_events(text: &[u8]) -> Result<Vec<u8>, String> {
     let lent = [text, BEHIND].concat();
     let text = &lent[..text.len()];
     // Readers that no call left: any place, any code.
-    for (place, code) in [(0, 0), (text.len() / 3, 0), (text.len() * 2 / 3, 0), (text.len(), 0), (text.len() + 1, 0), (1 << 31, 0), (u32::MAX as usize, 0)]
-        .into_iter()
-        .chain([1, 14, 15, 16, 254, 255, 256, 511, 1 << 31, u32::MAX].map(|code| (text.len() / 2, code)))
-    {
+    let n = text.len();
+    let places = [0, n / 3, n * 2 / 3, n, n + 1, 1 << 31, u32::MAX as usize].map(|place| (place, 0));
+    let codes = [1, 14, 15, 16, 254, 255, 256, 511, 1 << 31, u32::MAX].map(|code| (n / 2, code));
+    for (place, code) in places.into_iter().chain(codes) {
         next_event(text, &mut Guarded::new(Reader { place: place as u32, code }))?;
     }
 
