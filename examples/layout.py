@@ -204,7 +204,7 @@ def spelled(e):
 
 
 def check_prototype(goals, function, wanted):
-    path = goals / "head" / "Rattle-head-proofs" / function / "Code" / "Mir.antt"
+    (path,) = (goals / "head" / "Rattle-head-proofs").glob(f"**/{function}/Code/Mir.antt")
     text = path.read_text()
     # A function without types of other crates has its own spelling, without `by_name`.
     found = re.search(r"^(?:by_name-)?locals =(.*?)^abbrev", text, re.S | re.M)

@@ -15,9 +15,10 @@
  * A call that is broken off (a reset, a task that is ended) may leave the account half changed: where an account must outlive that, post to
  * a copy and keep the old one until the call is back.
  *
- * Stack, in bytes, the greatest measured on good and on damaged numbers (bench/stack.c), on x86-64, for which alone the kit builds:
- *   prepay_open 88, prepay_post 1,152, prepay_row 1,216, prepay_readings 64, prepay_summary 368, prepay_read_terms 256,
- *   prepay_read_event 408; for hosts prepay_transcript 39,128, prepay_statement 42,808.
+ * Stack, in bytes, the greatest measured on good and on damaged numbers, the room for the answer included (bench/stack.c), on x86-64, for
+ * which alone the kit builds:
+ *   prepay_open 88, prepay_post 1,176, prepay_row 1,224, prepay_readings 56, prepay_summary 464, prepay_read_terms 360,
+ *   prepay_read_event 392; for hosts prepay_transcript 18,152, prepay_statement 18,168.
  */
 #ifndef PREPAY_HEAD_H
 #define PREPAY_HEAD_H
