@@ -3,21 +3,22 @@ use Rattle.std.proofs.Common.{◌≡◌, ℕ, zero, suc, List, [], ◌∷◌, le
 use Rattle.terms.specs.declared.Terms.{Terms}
 use Rattle.text.specs.Text.{read_event}
 use Rattle.transcript.specs.Events.{Fold, fold_by, fold_in}
-use Rattle.reader.specs.Reader.{events_in, events_after}
-use Rattle.reader.proofs.Whole.{by_read, whole}
+use Rattle.reader.specs.Reader.{answers_in, answers_after}
+use Rattle.scanner.proofs.Laws.{by_read}
+use Rattle.reader.proofs.Whole.{whole}
 use Rattle.head.specs.Texts.{fold_answers, AsInText}
 
 module _ {S Y : Type 0} (w : Fold S Y) where
-  made : (k : ℕ) (x : S) (s : List ℕ) → fold_answers w x (events_in k s) ≡ fold_in w k x s
-  unfolding fold_answers events_in fold_in
+  made : (k : ℕ) (x : S) (s : List ℕ) → fold_answers w x (answers_in k s) ≡ fold_in w k x s
+  unfolding fold_answers answers_in fold_in
   made zero x s = refl
   made (suc k) x [] = refl
   made (suc k) x (b ∷ s) =
       by_read (read_event (b ∷ s))
-      (λ e r g. rw (g, events_in, fold_by) (ap (w.event x e) (made k (w.step x e) r)))
-      (λ g. rw (g, events_in, fold_by) refl)
+      (λ e r g. rw (g, answers_in, fold_by) (ap (w.event x e) (made k (w.step x e) r)))
+      (λ g. rw (g, answers_in, fold_by) refl)
 
 pub in-text : {S Y : Type 0} (w : Terms → Fold S Y) → AsInText w
 in-text w text rest t x e =
     let k = suc (length rest) in
-    ap (fold_answers (w t) x) (whole text k ∙ ap (events_after k) e) ∙ made (w t) k x rest
+    ap (fold_answers (w t) x) (whole text k ∙ ap (answers_after k) e) ∙ made (w t) k x rest

@@ -6,9 +6,10 @@ use Rattle.ledger.specs.declared.Refusal.{Refusal}
 use Rattle.ledger.specs.Refusals.{refusal_code}
 use Rattle.scanner.specs.Scanner.{got}
 use Rattle.transcript.specs.Events.{Fold, fold_events}
-use Rattle.transcript.specs.Transcript.{terms_in, ledger_lines}
+use Rattle.text.specs.Text.{terms_in}
+use Rattle.transcript.specs.Transcript.{ledger_lines}
 use Rattle.statement.specs.Statement.{event_list}
-use Rattle.reader.specs.Reader.{at_end, begun, Answer, answers}
+use Rattle.reader.specs.Reader.{at_end, begun, EventAnswer, answers}
 
 -- The terms read, and the code; refused, the lent terms stay.
 abbrev pub terms_left : Terms → Result Terms Refusal → Terms × ℕ
@@ -24,7 +25,7 @@ event_left lent (Err r) = (lent, refusal_code r)
 -- ---- call after call
 
 -- What is made of the events that are answered, one after the other, up to the first answer that is none.
-unfoldable pub fold_answers : {S Y : Type 0} → Fold S Y → S → List Answer → Y
+unfoldable pub fold_answers : {S Y : Type 0} → Fold S Y → S → List EventAnswer → Y
 fold_answers w x [] = w.end x
 fold_answers w x (Ok (Some e) ∷ more) = w.event x e (fold_answers w (w.step x e) more)
 fold_answers w x (Ok None ∷ more) = w.end x

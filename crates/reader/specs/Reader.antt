@@ -5,7 +5,7 @@ use Rattle.ledger.specs.declared.Event.{Event}
 use Rattle.ledger.specs.declared.Refusal.{Refusal}
 use Rattle.ledger.specs.declared.Refusal.TheVariants.{Form}
 use Rattle.scanner.specs.Scanner.{Read, got, broken}
-use Rattle.text.specs.Text.{max_text, read_terms, read_event}
+use Rattle.text.specs.Text.{max_text, terms_in, read_event}
 use Rattle.reader.specs.declared.Reader.{Reader}
 
 -- ---- a call
@@ -27,10 +27,6 @@ pub record Given (A : Type 0) : Type 0 where
 
 abbrev pub gives : {A : Type 0} → ℕ → ℕ → Result A Refusal → Given A
 gives place code answer = record { reader = record { place = place; code = code }; answer = answer }
-
--- the terms of a text: one that is too long is malformed
-abbrev pub terms_in : List ℕ → Read Terms
-terms_in text = cond (ltb max_text (length text)) broken (read_terms text)
 
 -- the terms, and the reader at the first event
 abbrev pub begun_by : List ℕ → Read Terms → Given Terms
@@ -59,33 +55,33 @@ next_of text r =
 
 -- ---- call after call
 
-abbrev pub Answer : Type 0
-Answer = Result (Option Event) Refusal
+abbrev pub EventAnswer : Type 0
+EventAnswer = Result (Option Event) Refusal
 
 -- what k calls answer, each getting the reader as the call before left it
-unfoldable pub answers : List ℕ → ℕ → Reader → List Answer
+unfoldable pub answers : List ℕ → ℕ → Reader → List EventAnswer
 answers text zero r = []
 answers text (suc k) r = (next_of text r).answer ∷ answers text k (next_of text r).reader
 
 -- What k calls should answer where these bytes are left: event after event; at the end, each time that it is the end; from an event that
 -- breaks the form on, each time that the text is malformed.
-unfoldable pub events_in : ℕ → List ℕ → List Answer
-events_in zero s = []
-events_in (suc k) [] = replicate (suc k) (Ok None)
-events_in (suc k) (b ∷ s) =
+unfoldable pub answers_in : ℕ → List ℕ → List EventAnswer
+answers_in zero s = []
+answers_in (suc k) [] = replicate (suc k) (Ok None)
+answers_in (suc k) (b ∷ s) =
     elim (read_event (b ∷ s)) [
-      | got e rest ↦ Ok (Some e) ∷ events_in k rest
+      | got e rest ↦ Ok (Some e) ∷ answers_in k rest
       | broken ↦ replicate (suc k) (Err Form)
     ]
 
 -- The same over a whole text: its events stand after its terms.
-abbrev pub events_after : ℕ → Read Terms → List Answer
-events_after k (got t rest) = events_in k rest
-events_after k broken = replicate k (Err Form)
+abbrev pub answers_after : ℕ → Read Terms → List EventAnswer
+answers_after k (got t rest) = answers_in k rest
+answers_after k broken = replicate k (Err Form)
 
-abbrev pub events_of : ℕ → List ℕ → List Answer
-events_of k text = events_after k (terms_in text)
+abbrev pub answers_of : ℕ → List ℕ → List EventAnswer
+answers_of k text = answers_after k (terms_in text)
 
 -- The calls over a text answer what stands in it, however many they are.
 abbrev pub ReadsWhole : Type 0
-ReadsWhole = (text : List ℕ) (k : ℕ) → answers text k (begun text).reader ≡ events_of k text
+ReadsWhole = (text : List ℕ) (k : ℕ) → answers text k (begun text).reader ≡ answers_of k text

@@ -37,10 +37,7 @@ impl Reader {
             place: 0,
             code: MALFORMED,
         };
-        if text.len() > MAX_TEXT {
-            return Err(Refusal::Form);
-        }
-        let (terms, rest) = text::read_terms(text).ok_or(Refusal::Form)?;
+        let (terms, rest) = text::terms_in(text).ok_or(Refusal::Form)?;
         *self = Reader {
             place: (text.len() - rest.len()) as u32,
             code: READS_ON,

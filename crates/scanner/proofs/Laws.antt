@@ -5,6 +5,11 @@ use Rattle.std.proofs.lemmas.Bool.{and_parts}
 use Rattle.std.proofs.lemmas.List.{drop-drop}
 use Rattle.scanner.specs.Scanner.{bytes, Read, got, broken, then, feed, read_line, after_prefix, read_value, is_number, value_from, read_number, is_date_form, date_value, read_date}
 
+-- by cases of what is read
+pub by_read : {Z : Type 0} {A : Type 0} (x : Read A) → ((a : A) (r : List ℕ) → x ≡ got a r → Z) → (x ≡ broken → Z) → Z
+by_read (got a r) g f = g a r refl
+by_read broken g f = f refl
+
 -- what follows a place that is at least n bytes on
 pub record IsRest (n : ℕ) (s r : List ℕ) : Type 0 where
   pub at : ℕ

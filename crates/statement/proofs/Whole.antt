@@ -15,7 +15,8 @@ use Rattle.refinement.proofs.Lists.{opened-valid}
 use Rattle.months.specs.Summary.{summary_of}
 use Rattle.months.proofs.Agrees.{summary-made}
 use Rattle.scanner.specs.Scanner.{got}
-use Rattle.transcript.specs.Transcript.{terms_in, by_text}
+use Rattle.text.specs.Text.{terms_in}
+use Rattle.transcript.specs.Transcript.{by_text}
 use Rattle.transcript.proofs.Terms.{by-terms, opened}
 use Rattle.statement.specs.Statement.{month_lines, events_of, all_months}
 use Rattle.statement.specs.Work.{OpensText}

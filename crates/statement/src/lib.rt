@@ -93,7 +93,7 @@ pub fn count_suffices()
 fn open(text: &[u8]) -> Result<(Account, &[u8]), Refusal>
     ensures { IsTextOpened text.now result }
 {
-    let (terms, rest) = transcript::read_terms(text).ok_or(Refusal::Form)?;
+    let (terms, rest) = text::terms_in(text).ok_or(Refusal::Form)?;
     let account = account::open(terms)?;
     Ok((account, rest))
 }

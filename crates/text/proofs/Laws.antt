@@ -1,12 +1,12 @@
 -- What is read is taken from the front of the text, and the rest is its end: for those who cite specs/Text.antt. Assumes nothing.
-use Rattle.std.proofs.Common.{◌≡◌, ℕ, ◌+◌, ◌-◌, ◌≤◌, Bool, true, false, cond, eqb, Option, Some, None, IfSome, Bor, List, [], ◌∷◌, length, drop, refl, arith}
+use Rattle.std.proofs.Common.{◌≡◌, ℕ, ◌+◌, ◌-◌, ◌≤◌, Bool, true, false, cond, ltb, eqb, Option, Some, None, IfSome, Bor, List, [], ◌∷◌, length, drop, length-drop, refl, ap, arith}
 use mathlib.Core.Path.{subst}
-use borrow.Author.Tests.{eqb-true, eqb-false}
+use borrow.Author.Tests.{eqb-true, eqb-false, ltb-false}
 use Rattle.terms.specs.declared.Terms.{Terms}
 use Rattle.ledger.specs.declared.Event.{Event}
 use Rattle.scanner.specs.Scanner.{bytes, Read, got, broken, then, read_value, read_number, read_date, IsRead}
 use Rattle.scanner.proofs.Laws.{IsRest, Taken, rest-shorter, rest-is, rest-fewer, rest-taken, then-taken, value-taken, number-taken, date-taken}
-use Rattle.text.specs.Text.{FieldLine, sorts, sort_in, fields_in, read_sort, stored, read_fields, event_of, read_event, read_terms}
+use Rattle.text.specs.Text.{FieldLine, sorts, sort_in, fields_in, read_sort, stored, read_fields, event_of, read_event, read_terms, terms_in}
 use Rattle.text.proofs.Words.{least, long-enough}
 
 -- ---- an event
@@ -82,3 +82,24 @@ terms-taken s =
 
 pub terms-rest : (s : List ℕ) (t : Terms) (r : List ℕ) → read_terms s ≡ got t r → r ≡ drop (length s - length r) s
 terms-rest s t r h = rest-is (subst (Taken (λ t. 0) s) h (terms-taken s))
+
+-- ---- the terms of a text
+
+-- nothing was read
+abbrev IsBroken : {A : Type 0} → Read A → Type 0
+IsBroken (got a r) = ⊥
+IsBroken broken = Unit
+
+-- those of its lines, where it isn't too long
+pub terms-lines : (s : List ℕ) (t : Terms) (r : List ℕ) → terms_in s ≡ got t r → (length s ≤ 65536) × (read_terms s ≡ got t r)
+terms-lines s t r = by (ltb 65536 (length s)) refl
+  where
+    by : (b : Bool) → ltb 65536 (length s) ≡ b → cond b broken (read_terms s) ≡ got t r → (length s ≤ 65536) × (read_terms s ≡ got t r)
+    by true e h = absurd (subst IsBroken h tt)
+    by false e h = (ltb-false 65536 (length s) e, h)
+
+pub terms_within : (s : List ℕ) (o : Option (Terms × Bor (List ℕ))) → IsRead (terms_in s) o → IfSome o (λ p. (length p.1.now ≤ length s) × (length s ≤ 65536))
+terms_within s None h = tt
+terms_within s (Some p) h =
+    let l = terms-lines s p.0 p.1.now h in
+    (omega (arith, ap length (terms-rest s p.0 p.1.now l.1), length-drop (length s - length p.1.now) s), l.0)

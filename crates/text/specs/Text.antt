@@ -1,5 +1,5 @@
 -- The form of an event text, over bytes (document 01, "Event text"): its terms and its events, line by line.
-use Rattle.std.specs.Prelude.{ℕ, Bool, true, cond, List, [], ◌∷◌, eqb}
+use Rattle.std.specs.Prelude.{ℕ, Bool, true, cond, List, [], ◌∷◌, length, ltb, eqb}
 use Prim.Native.String.{String}
 use Rattle.calendar.specs.declared.Date.{Date}
 use Rattle.terms.specs.declared.Terms.{Terms}
@@ -20,6 +20,10 @@ read_terms s =
     then (read_number (bytes "cutoff") s₃) (λ (f : ℕ) (s₄ : List ℕ).
     then (read_number (bytes "share") s₄) (λ (h : ℕ) (s₅ : List ℕ).
     got (record { opened = o; price = p; connect = c; cutoff = f; share = h }) s₅)))))
+
+-- "exceeds 65,536 bytes": such a text breaks its form before its terms
+abbrev pub terms_in : List ℕ → Read Terms
+terms_in s = cond (ltb max_text (length s)) broken (read_terms s)
 
 -- ---- the sorts of events
 

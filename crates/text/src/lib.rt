@@ -6,7 +6,7 @@
 
 ghost use Rattle.std.specs.Prelude.{◌≡◌, ◌+◌, ◌≤◌, length, IfSome};
 ghost use Rattle.scanner.specs.Scanner.{IsRead};
-ghost use Rattle.text.specs.Text.{read_terms, sorts, fields_in, read_sort, read_fields, read_event};
+ghost use Rattle.text.specs.Text.{max_text, read_terms, terms_in, sorts, fields_in, read_sort, read_fields, read_event};
 ghost use Rattle.text.specs.Words.{sort_of};
 
 use ledger::Event;
@@ -18,7 +18,7 @@ pub const MAX_TEXT: usize = 65536;
 // ---- the terms
 
 #[tactic(auto, unfolding(crate::specs::Text::read_terms))]
-pub fn read_terms(text: &[u8]) -> Option<(Terms, &[u8])>
+fn read_terms(text: &[u8]) -> Option<(Terms, &[u8])>
     ensures { IsRead (read_terms text.now) result }
 {
     let (opened, rest) = scanner::read_date(text, b"open")?;
@@ -34,6 +34,17 @@ pub fn read_terms(text: &[u8]) -> Option<(Terms, &[u8])>
         share,
     };
     Some((terms, rest))
+}
+
+// The terms of a text, with its rest; none where they break their form, or where the text is too long.
+pub fn terms_in(text: &[u8]) -> Option<(Terms, &[u8])>
+    ensures read { IsRead (terms_in text.now) result }
+    ensures within { IfSome result (λ p. (length p.1.now ≤ length text.now) × (length text.now ≤ max_text)) }
+{
+    if text.len() > MAX_TEXT {
+        return None;
+    }
+    read_terms(text)
 }
 
 // ---- the sort of an event

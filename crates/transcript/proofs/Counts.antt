@@ -11,7 +11,8 @@ use Rattle.ledger.specs.declared.Event.{Event}
 use Rattle.ledger.proofs.Cases.{decide}
 use Rattle.account.specs.Step.{step_of}
 use Rattle.account.specs.declared.Account.{Account}
-use Rattle.scanner.specs.Scanner.{Read, got, broken}
+use Rattle.scanner.specs.Scanner.{got, broken}
+use Rattle.scanner.proofs.Laws.{by_read}
 use Rattle.text.specs.Text.{read_event}
 use Rattle.text.proofs.Laws.{event-progress}
 use Rattle.printing.proofs.Counts.{uncounted}
@@ -21,10 +22,6 @@ use Rattle.transcript.specs.Work.{account_line, account_last_line, account_lines
 use Rattle.transcript.specs.Pieces.{among_events, piece_by, events_piece}
 use Rattle.transcript.specs.Counts.{FoldSuffices, CountsSuffice}
 use Rattle.transcript.specs.Progress.{Reached}
-
-pub by_read : {Z : Type 0} (x : Read Event) → ((e : Event) (r : List ℕ) → x ≡ got e r → Z) → (x ≡ broken → Z) → Z
-by_read (got e r) g f = g e r refl
-by_read broken g f = f refl
 
 -- ---- what is made of the events, by what stands there
 

@@ -18,16 +18,17 @@ use Rattle.refinement.specs.Agree.{Represents, Refinement}
 use Rattle.refinement.proofs.Lists.{refinement-holds}
 use Rattle.readings.proofs.After.{balance-reading, settled-reading}
 use Rattle.scanner.specs.Scanner.{Read, got, broken}
-use Rattle.text.specs.Text.{read_terms, read_event}
-use Rattle.text.proofs.Laws.{terms-rest}
+use Rattle.text.specs.Text.{read_terms, terms_in, read_event}
+use Rattle.text.proofs.Laws.{terms-rest, terms-lines}
 use Rattle.transcript.specs.Events.{fold_in}
-use Rattle.transcript.specs.Transcript.{ledger_line, ledger_last_line, ledger_lines, terms_line, by_terms, terms_in, all_lines, transcript}
+use Rattle.transcript.specs.Transcript.{ledger_line, ledger_last_line, ledger_lines, terms_line, by_terms, all_lines, transcript}
 use Rattle.transcript.specs.Pieces.{lines_from, start_of, begun_of, Begun}
 use Rattle.transcript.specs.Progress.{Reached}
 use Rattle.transcript.proofs.Whole.{begun, events-left, refusal-left}
-use Rattle.transcript.proofs.Terms.{short, by-terms, code-0, code-1, invalid}
+use Rattle.transcript.proofs.Terms.{by-terms, code-0, code-1, invalid}
 use Rattle.transcript.specs.Work.{account_line, account_last_line, account_lines}
-use Rattle.transcript.proofs.Counts.{by_read, fold-got, fold-broken}
+use Rattle.transcript.proofs.Counts.{fold-got, fold-broken}
+use Rattle.scanner.proofs.Laws.{by_read}
 
 -- ---- one line
 
@@ -86,10 +87,7 @@ module _ (text : List ℕ) where
 
   module _ (t : Terms) (r : List ℕ) (e : terms_in text ≡ got t r) where
     there : r ≡ drop (length text - length r) text
-    there = terms-rest text t r (short text t r e).1
-
-    pub rest-length : length r ≤ length text
-    rest-length = omega (arith, ap length there, length-drop (length text - length r) text)
+    there = terms-rest text t r (terms-lines text t r e).1
 
     opened : valid_terms t ≡ true → lines_from text (fresh t) (length text - length r) 0 ≡ by_terms all_lines (got t r)
     opened v = rw (sym there) (simp v (lines_are t v (suc (length r)) (fresh t) opening 1 r (refinement-holds t v).opens))
@@ -104,4 +102,4 @@ module _ (text : List ℕ) where
         (λ v. events-left text q refl (code-0 t v) (omega arith) ∙ opened v)
         (λ f. refusal-left text q refl (omega arith) (λ z. omega (arith, z, code-1 t f)) ∙ ap terms_line (code-1 t f) ∙ sym (invalid t all_lines r f))
         ∙ sym (by-terms text all_lines (got t r) e))
-        (λ z. (short text t r e).0))
+        (λ z. (terms-lines text t r e).0))

@@ -17,28 +17,12 @@ use Rattle.account.specs.Step.{Opened, IsOpened}
 use Rattle.account.specs.declared.Account.{Account}
 use Rattle.refinement.proofs.Lists.{opened-valid}
 use Rattle.scanner.specs.Scanner.{Read, got, broken}
-use Rattle.text.specs.Text.{read_terms}
-use Rattle.transcript.specs.Transcript.{terms_line, by_terms, by_text, terms_in}
-
--- what was read is not broken
-abbrev IsGot : {A : Type 0} → Read A → Type 0
-IsGot (got a r) = Unit
-IsGot broken = ⊥
+use Rattle.text.specs.Text.{read_terms, terms_in}
+use Rattle.transcript.specs.Transcript.{terms_line, by_terms, by_text}
 
 -- ---- the terms of a text
 
 module _ (s : List ℕ) where
-  pub terms_long : 65536 < length s → terms_in s ≡ broken
-  terms_long l = simp (lt-ltb 65536 (length s) l)
-
-  pub terms_short : length s ≤ 65536 → terms_in s ≡ read_terms s
-  terms_short l = simp (le-ltb 65536 (length s) l)
-
-  pub short : (t : Terms) (r : List ℕ) → terms_in s ≡ got t r → (length s ≤ 65536) × (read_terms s ≡ got t r)
-  short t r e = decide (ltb 65536 (length s))
-      (λ y. absurd (subst IsGot (sym e ∙ terms_long (ltb-true 65536 (length s) y)) tt))
-      (λ n. let l = ltb-false 65536 (length s) n in (l, sym (terms_short l) ∙ e))
-
   pub by-terms : (lines : Terms → List ℕ → List ℕ) (q : Read Terms) → terms_in s ≡ q → by_text lines s ≡ by_terms lines q
   by-terms lines q e = as-read (ltb 65536 (length s)) (read_terms s) ∙ ap (by_terms lines) e
     where

@@ -64,10 +64,6 @@ by_terms lines broken = terms_line 15
 abbrev pub by_text : (Terms → List ℕ → List ℕ) → List ℕ → List ℕ
 by_text lines s = cond (ltb max_text (length s)) (terms_line 15) (by_terms lines (read_terms s))
 
--- the terms of a text, as the code reads them
-abbrev pub terms_in : List ℕ → Read Terms
-terms_in s = cond (ltb max_text (length s)) broken (read_terms s)
-
 -- what is printed after good terms: the lines of all events, from the opening ledger on
 abbrev pub all_lines : Terms → List ℕ → List ℕ
 all_lines t r = fold_events (ledger_lines t) (opening, 1) r

@@ -9,7 +9,7 @@ ghost use Rattle.ledger.specs.Refusals.{refusal_code};
 ghost use Rattle.account.specs.Record.{fresh};
 ghost use Rattle.printing.specs.Printer.{HasRoom, Writes, WritesWithin};
 ghost use Rattle.scanner.specs.Scanner.{IsRead};
-ghost use Rattle.transcript.specs.Transcript.{WholeTranscript, terms_line, terms_in};
+ghost use Rattle.transcript.specs.Transcript.{WholeTranscript, terms_line};
 ghost use Rattle.transcript.specs.Work.{account_line, account_last_line};
 ghost use Rattle.transcript.specs.Progress.{reached};
 ghost use Rattle.transcript.specs.Pieces.{event_room, last_room, piece_room, progress_of, Begun, Piece};
@@ -93,16 +93,6 @@ pub fn counts_suffice()
     ensures { CountsSuffice }
 {}
 
-// The terms and the text's rest; none where they break their form, or where the text is too long.
-pub fn read_terms(text: &[u8]) -> Option<(Terms, &[u8])>
-    ensures { IsRead (terms_in text.now) result }
-{
-    if text.len() > text::MAX_TEXT {
-        return None;
-    }
-    text::read_terms(text)
-}
-
 impl Progress {
     // At a place of the text, with nothing printed.
     fn start(terms: Terms, at: usize, code: u8) -> Progress
@@ -121,7 +111,7 @@ impl Progress {
     pub fn begin(text: &[u8]) -> Progress
         ensures { Begun text.now (reached result 0) }
     {
-        match read_terms(text) {
+        match text::terms_in(text) {
             Some((terms, rest)) => {
                 let code = ledger::code(account::open(terms));
                 Progress::start(terms, text.len() - rest.len(), code)

@@ -1,7 +1,7 @@
 -- `statement::open` meets its contract. Assumes nothing.
 use Rattle.std.proofs.Common.{◌≡◌, ◌∙◌, Err, rules}
 use Rattle.scanner.specs.Scanner.{got}
-use Rattle.transcript.specs.Transcript.{terms_in}
+use Rattle.text.specs.Text.{terms_in}
 use Rattle.transcript.proofs.Terms.{by-terms, refused}
 use Rattle.statement.proofs.Whole.{opens}
 use Rattle.statement.proofs.open.Goals as goal
