@@ -1,4 +1,4 @@
-// The account record, and its step: in place, and by value.
+// The account record, and its step: in place, and by value; and what is read of an account, however it is kept.
 // It uses the calendar, the terms, the marks, the moves, and the ledger's event and refusals. Its promises cite specs/Step.antt and
 // specs/Record.antt. A place is cast by `as`, since u32 has no `From` into usize.
 #![tactic(auto)]
@@ -52,7 +52,7 @@ impl Account {
         }
     }
 
-    // One event: the cells that it may change are read, moved and written back. A refusal writes none of them.
+    // One event: the cells of its move are written back. A refusal writes none of them.
     #[tactic(auto, unfolding(crate::specs::Step::step_of, marks::specs::Marks::marked, marks::specs::Marks::mark_range))]
     pub fn post(&mut self, e: Event) -> Result<u64, Refusal>
         ensures { stepped_of self.new result ≡ step_of self.old e }
@@ -82,15 +82,15 @@ pub fn open(t: Terms) -> Result<Account, Refusal>
     }
 }
 
-// The account after an event, as a record or as numbers, and the answer to the event.
+// The account after an event, and the answer to the event.
 #[derive(Clone, Copy)]
-pub struct Posted<R> {
-    pub account: R,
+pub struct Posted {
+    pub account: Account,
     pub answer: Result<u64, Refusal>,
 }
 
 // One event, by value: the step of `posting::post`, which the project names.
-pub fn step(mut account: Account, e: Event) -> Posted<Account>
+pub fn step(mut account: Account, e: Event) -> Posted
     ensures { stepped_of result.account result.answer ≡ step_of account e }
 {
     let answer = account.post(e);

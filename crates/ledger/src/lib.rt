@@ -1,5 +1,5 @@
 // The ledger of demand 3: its definitions, from document 01 alone, and the figures that document 01 marks (P); the event, its answer and a month's
-// figures, as the code and C have them.
+// figures.
 // It uses the calendar's, the tariff's and the terms' definitions, and nothing of the head. Its promises cite specs/Refusals.antt and
 // specs/Figures.antt.
 #![tactic(auto)]
@@ -38,7 +38,7 @@ impl From<Refusal> for u8 {
     }
 }
 
-// The code of an answer, as C gets it: 0 where it is no refusal.
+// The code of an answer: 0 where it is no refusal.
 pub fn code<T: Drop>(answer: Result<T, Refusal>) -> u8
     ensures { result ≡ code_of answer }
 {
@@ -79,8 +79,7 @@ pub const MAX_PAYMENTS: u32 = 128;
 
 pub const REQUIRED_DEBT: u64 = 5000;
 
-// What a posted event is answered, as C gets it: C's record has the code, 0 where the event is accepted, beside the value.
-#[repr(C)]
+// What a posted event is answered, as it is printed and as C gets it: the code, 0 where the event is accepted, beside the value.
 #[derive(Clone, Copy, Debug, PartialEq, Eq)]
 pub struct Answer {
     pub code: u8,
@@ -99,7 +98,6 @@ impl From<Result<u64, Refusal>> for Answer {
 }
 
 // A count of payments and the sum of their amounts, in cents.
-#[repr(C)]
 #[derive(Clone, Copy, Debug, PartialEq, Eq, Default)]
 pub struct Counted {
     pub count: u32,
@@ -107,7 +105,6 @@ pub struct Counted {
 }
 
 // Energy used, in Wh, and its cost, in cents.
-#[repr(C)]
 #[derive(Clone, Copy, Debug, PartialEq, Eq, Default)]
 pub struct Used {
     pub wh: u64,
@@ -129,9 +126,8 @@ pub struct Figures {
     pub average: Option<u64>,
 }
 
-// The same as C gets them: its record has the code beside the figures, and a flag for an average that is missing. The code is 3 for a month that
-// holds none of the account's days, and 1 where there is no account; every figure is 0 then.
-#[repr(C)]
+// The same as they are printed and as C gets them: the code beside the figures, and a flag for an average that is missing. The code is 3 for a month
+// that holds none of the account's days, and 1 where there is no account; every figure is 0 then.
 #[derive(Clone, Copy, Debug, PartialEq, Eq, Default)]
 pub struct Summary {
     pub code: u8,

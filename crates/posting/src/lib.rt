@@ -21,7 +21,7 @@ pub fn post(a: &mut Account, e: Event) -> Result<u64, Refusal>
 }
 
 // One event, by value, in the form that lends an account to `post`: it is handed back with the answer.
-pub fn post_by_value(a: Account, e: Event) -> Posted<Account>
+pub fn post_by_value(a: Account, e: Event) -> Posted
     ensures { Posts a e result.account (answer_record result.answer) }
 {
     let mut b = a;
