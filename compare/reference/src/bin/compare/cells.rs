@@ -160,9 +160,10 @@ fn wrong(r: &mut Rng, cell: Cell) -> u64 {
             0 => r.pick(&[398, 399, 400, 401, 430, 65_536, u32::MAX as u64]),
             _ => r.below(400),
         },
-        ("marks", _) => match r.below(3) {
+        ("marks", _) => match r.below(4) {
             0 => 0,
             1 => r.below(8),
+            2 => r.pick(&[8, 64, 128, 0xF8]),
             _ => r.below(256),
         },
         ("warned", _) => r.pick(&[0, 0, 1, 1, 1, 2, 3, 128, 129, 255]),
