@@ -2,13 +2,13 @@
 # The C interface from outside: builds the library where it is missing or older than the crates, and the programs here, runs them, and holds
 # them to the stored output and to the programs `prepay` and `summary`. Needs `rt`, python3 and a C compiler. What else it would use and does
 # not find, it says. The last line is `examples: passed`, the status 0, if all held. Of the repository it writes target/ and the crates' out/.
-#   examples/run.sh          all: the header as C99, C11 and C++11, what the library calls, the structs as Rattle proves them (a minute after
-#                            a change of the crates), strange memory, and all of it under valgrind
+#   examples/run.sh          all: the header as C99, C11 and C++11, what the library calls, the structs as Rattle proves them (some minutes
+#                            after a change of the crates), strange memory, and the programs under valgrind
 #   examples/run.sh gate     the gate's part: the example, and the structs by what the library does
 set -euo pipefail
 cd "$(dirname "$0")/.."
 mode=${1:-all}
-CC=${CC:-$(command -v cc || command -v gcc)}
+CC=${CC:-$(command -v cc || command -v gcc || command -v clang || echo cc)}
 library=crates/head/out/libhead.a
 work=target/examples
 mkdir -p "$work"
