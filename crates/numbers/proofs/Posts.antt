@@ -23,13 +23,13 @@ use Rattle.account.specs.Record.{blank_day, no_payment, fresh}
 use Rattle.account.specs.Step.{MovesBy, cells_of, posted, step_of}
 use Rattle.account.specs.declared.Account.{Account}
 use Rattle.refinement.specs.Lists.{account_after}
-use Rattle.posting.specs.Posting.{answer_of, row_of}
+use Rattle.posting.specs.Posting.{answer_of, row_of, left_after, row_left}
 use Rattle.posting.proofs.Ledgers.{posts, posts-row}
 use Rattle.numbers.specs.declared.DayNumbers.{DayNumbers}
 use Rattle.numbers.specs.declared.PaymentNumbers.{PaymentNumbers}
 use Rattle.numbers.specs.declared.TotalsNumbers.{TotalsNumbers}
 use Rattle.numbers.specs.declared.Numbers.{Numbers}
-use Rattle.numbers.specs.Numbers.{account_in, day_numbers, payment_numbers, totals_numbers, numbers_of, move_in, with_move, posted_in, numbers_after, row_in, OpensIn, PostsIn, PostsRowIn}
+use Rattle.numbers.specs.Numbers.{account_in, day_numbers, payment_numbers, totals_numbers, numbers_of, move_in, with_move, posted_in, row_in, OpensIn, PostsIn, PostsRowIn}
 use Rattle.numbers.proofs.Cells.{come-back, moved-in, moved-of}
 
 -- ---- one event
@@ -97,28 +97,28 @@ module _ (t : Terms) (n : Numbers) where
 
 -- ---- a row
 
-after-account : (es : List Event) (n : Numbers) → account_in (numbers_after n es) ≡ account_after (account_in n) es
-unfolding numbers_after account_after
+after-account : (es : List Event) (n : Numbers) → account_in (left_after posted_in n es) ≡ account_after (account_in n) es
+unfolding left_after account_after
 after-account [] n = refl
 after-account (e ∷ es) n = after-account es (posted_in n e) ∙ ap (λ (a : Account). account_after a es) (posted-account n e)
 
-after-numbers : (es : List Event) (a : Account) → numbers_after (numbers_of a) es ≡ numbers_of (account_after a es)
-unfolding numbers_after account_after
+after-numbers : (es : List Event) (a : Account) → left_after posted_in (numbers_of a) es ≡ numbers_of (account_after a es)
+unfolding left_after account_after
 after-numbers [] a = refl
-after-numbers (e ∷ es) a = ap (λ (n : Numbers). numbers_after n es) (posted-numbers a e) ∙ after-numbers es (step_of a e).account
+after-numbers (e ∷ es) a = ap (λ (n : Numbers). left_after posted_in n es) (posted-numbers a e) ∙ after-numbers es (step_of a e).account
 
 module _ (es : List Event) (cs : List ℕ) where
   row-account : (n : Numbers) → account_in (row_in n es cs) ≡ (row_of (account_in n) es cs).account
-  unfolding row_in row_of
+  unfolding row_left row_of
   row-account n = decide (ltb (length cs) (length es)) (λ y. simp y) (λ f. simp f (after-account es n))
 
   row-numbers : (a : Account) → row_in (numbers_of a) es cs ≡ numbers_of (row_of a es cs).account
-  unfolding row_in row_of
+  unfolding row_left row_of
   row-numbers a = decide (ltb (length cs) (length es)) (λ y. simp y) (λ f. simp f (after-numbers es a))
 
   pub posts-row-in : (n m : Numbers) (bytes : List ℕ) (r : ℕ)
       → m ≡ row_in n es cs → bytes ≡ (row_of (account_in n) es cs).bytes → r ≡ (row_of (account_in n) es cs).answer → PostsRowIn n es cs m bytes r
-  unfolding row_in row_of
+  unfolding row_left row_of
   posts-row-in n m bytes r h g k = record {
     account = posts-row (account_in n) es cs (account_in m) bytes r (ap account_in h ∙ row-account n) g k;
     lent = h;

@@ -1,6 +1,6 @@
 -- An account as numbers alone, in the memory of a caller in C: the account that any numbers are read as, the numbers of an account, and what
 -- the calls over them leave and answer.
-use Rattle.std.specs.Prelude.{ℕ, ◌≡◌, Bool, cond, List, [], ◌∷◌, length, map, set, ltb, eqb}
+use Rattle.std.specs.Prelude.{ℕ, ◌≡◌, Bool, cond, List, map, set, eqb}
 use Rattle.marks.specs.Marks.{marked}
 use Rattle.terms.specs.Terms.{terms_code}
 use Rattle.terms.specs.declared.Terms.{Terms}
@@ -15,7 +15,7 @@ use Rattle.moves.specs.declared.Totals.{Totals}
 use Rattle.account.specs.Record.{fresh}
 use Rattle.account.specs.Step.{usage_at, day_at, cells_of, step_of}
 use Rattle.account.specs.declared.Account.{Account}
-use Rattle.posting.specs.Posting.{Posts, row_of, PostsRow}
+use Rattle.posting.specs.Posting.{Posts, row_of, row_left, PostsRow}
 use Rattle.numbers.specs.declared.DayNumbers.{DayNumbers}
 use Rattle.numbers.specs.declared.PaymentNumbers.{PaymentNumbers}
 use Rattle.numbers.specs.declared.TotalsNumbers.{TotalsNumbers}
@@ -129,13 +129,9 @@ with_move n e m = record {
 unfoldable pub posted_in : Numbers → Event → Numbers
 posted_in n e = cond (eqb (move_in n e).code 0) (with_move n e (move_in n e)) n
 
-unfoldable pub numbers_after : Numbers → List Event → Numbers
-numbers_after n [] = n
-numbers_after n (e ∷ es) = numbers_after (posted_in n e) es
-
--- a row longer than its buffer leaves them
-unfoldable pub row_in : Numbers → List Event → List ℕ → Numbers
-row_in n es buffer = cond (ltb (length buffer) (length es)) n (numbers_after n es)
+-- a row, event after event; one longer than its buffer leaves them
+abbrev pub row_in : Numbers → List Event → List ℕ → Numbers
+row_in = row_left posted_in
 
 -- ---- the calls
 

@@ -8,13 +8,14 @@ ghost use Rattle.ledger.specs.Rules.{max_payments};
 ghost use Rattle.ledger.specs.Refusals.{code_of, answer_record};
 ghost use Rattle.numbers.specs.Numbers.{day_in, payment_in, totals_in, account_in, day_numbers, payment_numbers, totals_numbers};
 ghost use Rattle.moves.specs.Moves.{charge_places, accepted};
-ghost use Rattle.numbers.specs.Numbers.{NumbersComeBack, with_move, OpensIn, PostsIn, PostsRowIn};
+ghost use Rattle.numbers.specs.Numbers.{NumbersComeBack, with_move, posted_in, OpensIn, PostsIn, PostsRowIn};
 
 use account::AsAccount;
 use calendar::DAY_COUNT;
-use ledger::{Event, MAX_PAYMENTS, Refusal, code};
+use ledger::{Event, MAX_PAYMENTS, Refusal};
 use marks::DayBytes;
 use moves::{CHARGE_PLACES, Charges, Day, Move, Payment, Totals, Usage};
+use posting::Posts;
 use terms::Terms;
 
 // The types below are C's: kinds, and yes and no, are numbers there, of which C may hand in any.
@@ -259,17 +260,20 @@ impl Numbers {
     }
 
     // A row of events in order, one code byte each; refused by 16 where the buffer is shorter than the row.
+
     pub fn post_row(&mut self, row: &[Event], codes: &mut [u8]) -> Result<(), Refusal>
         ensures { PostsRowIn self.old row.now codes.old self.new codes.new (code_of result) }
     {
-        if codes.len() < row.len() {
-            return Err(Refusal::Buffer);
-        }
-        // by index, as in `posting::post_row`
-        for (i, event) in row.iter().enumerate() {
-            let answer = self.post(*event);
-            codes[i] = code(answer);
-        }
-        Ok(())
+        posting::post_each(self, row, codes)
+    }
+}
+
+impl Posts for Numbers {
+    ghost account = { λ n. account_in n };
+
+    ghost posted = { λ n e. posted_in n e };
+
+    fn post(&mut self, e: Event) -> Result<u64, Refusal> {
+        Numbers::post(self, e)
     }
 }

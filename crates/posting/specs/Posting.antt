@@ -1,5 +1,5 @@
 -- What the posting calls promise of the account, of the answer and of the lent buffer: by the account's step, and in the ledger's terms.
-use Rattle.std.specs.Prelude.{ℕ, ◌≡◌, cond, List, ◌++◌, length, drop, ltb}
+use Rattle.std.specs.Prelude.{ℕ, ◌≡◌, cond, List, [], ◌∷◌, ◌++◌, length, drop, ltb}
 use Rattle.ledger.specs.declared.Event.{Event}
 use Rattle.ledger.specs.declared.Answer.{Answer}
 use Rattle.ledger.specs.Calls.{single, row, answered, written}
@@ -30,6 +30,14 @@ row_of a es buffer =
     cond (ltb (length buffer) (length es))
     (record { account = a; bytes = buffer; answer = 16 })
     (record { account = account_after a es; bytes = codes_of a es ++ drop (length es) buffer; answer = 0 })
+
+-- the same of whatever an event leaves: after the events, one after another; and as it was, where the buffer is shorter
+unfoldable pub left_after : {A : Type 0} → (A → Event → A) → A → List Event → A
+left_after posted a [] = a
+left_after posted a (e ∷ es) = left_after posted (posted a e) es
+
+unfoldable pub row_left : {A : Type 0} → (A → Event → A) → A → List Event → List ℕ → A
+row_left posted a es buffer = cond (ltb (length buffer) (length es)) a (left_after posted a es)
 
 -- `post_row` of the events es to account a, with a lent buffer: it leaves account b and the bytes of the buffer, and answers r.
 pub record PostsRow (a : Account) (es : List Event) (buffer : List ℕ) (b : Account) (after : List ℕ) (r : ℕ) : Type 0 where

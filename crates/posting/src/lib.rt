@@ -3,8 +3,12 @@
 // in the ledger's terms.
 #![tactic(auto)]
 
+ghost use Rattle.std.specs.Prelude.{◌≡◌};
 ghost use Rattle.ledger.specs.Refusals.{code_of, answer_record};
-ghost use Rattle.posting.specs.Posting.{Posts, PostsRow};
+ghost use Rattle.account.specs.Step.{step_of, stepped_of};
+ghost use Rattle.account.specs.declared.Account.{Account};
+ghost use Rattle.ledger.specs.declared.Event.{Event};
+ghost use Rattle.posting.specs.Posting.{Posts, PostsRow, row_left};
 
 use account::{Account, Posted, step};
 use ledger::{Event, Refusal, code};
@@ -29,9 +33,32 @@ pub fn post_by_value(a: Account, e: Event) -> Posted
     Posted { account: b, answer }
 }
 
+// What a row is posted to: the record, or C's numbers.
+pub trait Posts {
+    // the account that it is read as, and what an event leaves of it
+    ghost account: { Self → Account };
+
+    ghost posted: { Self → Event → Self };
+
+    fn post(&mut self, e: Event) -> Result<u64, Refusal>
+        ensures left { self.new ≡ posted self.old e }
+        ensures step { stepped_of (account self.new) result ≡ step_of (account self.old) e };
+}
+
+impl Posts for Account {
+    ghost account = { λ a. a };
+
+    ghost posted = { λ a e. (step_of a e).account };
+
+    fn post(&mut self, e: Event) -> Result<u64, Refusal> {
+        Account::post(self, e)
+    }
+}
+
 // A row of events in order, one code byte each; refused by 16 where the buffer is shorter than the row.
-pub fn post_row(a: &mut Account, row: &[Event], codes: &mut [u8]) -> Result<(), Refusal>
-    ensures { PostsRow a.old row.now codes.old a.new codes.new (code_of result) }
+pub fn post_each<A: Posts>(a: &mut A, row: &[Event], codes: &mut [u8]) -> Result<(), Refusal>
+    ensures account { PostsRow (A.account a.old) row.now codes.old (A.account a.new) codes.new (code_of result) }
+    ensures left { a.new ≡ row_left A.posted a.old row.now codes.old }
 {
     if codes.len() < row.len() {
         return Err(Refusal::Buffer);
@@ -42,4 +69,11 @@ pub fn post_row(a: &mut Account, row: &[Event], codes: &mut [u8]) -> Result<(), 
         codes[i] = code(answer);
     }
     Ok(())
+}
+
+// The row of an account, in the form that the project names.
+pub fn post_row(a: &mut Account, row: &[Event], codes: &mut [u8]) -> Result<(), Refusal>
+    ensures { PostsRow a.old row.now codes.old a.new codes.new (code_of result) }
+{
+    post_each(a, row, codes)
 }
