@@ -117,10 +117,14 @@ typedef struct {
  * Any numbers are read as an account: whatever they are, no call reads or writes elsewhere, wraps a sum or runs without end. They are no
  * account, and every event and every month gets 1, where the terms are outside their limits (as in memory of zeros), `count` is above 128,
  * or one of credit, debit, plan and standing is above 2^60; a charge that nothing else refuses gets 1 where the sum that it adds to is above
- * 2^60. No account that these calls alone have written is such. */
+ * 2^60. No account that these calls alone have written is such.
+ * An accepted event writes the totals, and at most one payment, one usage day, one sum of charges, one byte of `warned`, and in `marks` the
+ * days of its mark; as these calls write them: yes as 1, no as 0, a blank day as 0, 0, 0. The payment `number` modulo 128 and the usage day
+ * `usage` modulo 400 may be written so, read as before, even where the event's sort names none. All other numbers stay. */
 typedef struct {
-    uint64_t credit, debit, plan, standing;
-    uint32_t count, events, last, on; /* on: 1 is on, any other number off */
+    uint64_t credit, debit;           /* the balance is credit less debit; both only grow */
+    uint64_t plan, standing;          /* the unpaid plan; the cost of the standing estimates */
+    uint32_t count, events, last, on; /* payments and events accepted; the last one's day; service: 1 is on, any other number off */
 } prepay_totals;
 
 typedef struct {
@@ -133,13 +137,13 @@ typedef struct {
 
 typedef struct {
     prepay_totals totals;
-    uint64_t charges[PREPAY_MONTHS * PREPAY_CHARGE_KINDS];
+    uint64_t charges[PREPAY_MONTHS * PREPAY_CHARGE_KINDS]; /* month m's of kind k are summed at 5 m + k - 1 */
     prepay_terms terms;
     prepay_day days[PREPAY_DAYS];
     prepay_payment payments[PREPAY_MAX_PAYMENTS];
-    uint32_t spare; /* 0 */
-    uint8_t marks[PREPAY_DAYS];
-    uint8_t warned[PREPAY_DAYS];
+    uint32_t spare;              /* 0 */
+    uint8_t marks[PREPAY_DAYS];  /* a mark of kind k is the bit of value 1, 2, 4 for k = 1, 2, 3; other bits mean nothing, and stay */
+    uint8_t warned[PREPAY_DAYS]; /* 1: a warning was accepted on the day; any other number: none */
 } prepay_account;
 
 #define PREPAY_ACCOUNT_SIZE 8328
@@ -168,13 +172,13 @@ typedef struct {
     uint64_t reversed_count, reversed_sum; /* and reversed */
     uint64_t metered_wh, metered_cost;
     uint64_t estimated_wh, estimated_cost;
-    uint64_t charges[5]; /* kinds 1 to 5 */
+    uint64_t charges[PREPAY_CHARGE_KINDS]; /* kinds 1 to 5 */
     uint64_t average;    /* price, hundredths of a cent per kWh */
     uint64_t missing;    /* 1 where there is no energy, so no average; else 0 */
 } prepay_figures;
 
-/* How far a text has been read: the byte at which the next event starts, and 0; or PREPAY_END or 15, which ended the reading. Any other
- * code is read as 15. */
+/* How far a text has been read: the byte at which the next event starts, and 0; or PREPAY_END or 15, which ended the reading and is
+ * answered again, whatever the text. Any other code is read as 15, and stays; a place past the text's end is malformed. */
 typedef struct {
     uint32_t place, code;
 } prepay_reader;
@@ -192,6 +196,9 @@ PREPAY_HOLDS(PREPAY_ALIGN_OF(prepay_account) == PREPAY_ACCOUNT_ALIGN);
 PREPAY_HOLDS(sizeof(prepay_terms) == 7 * sizeof(uint32_t));
 PREPAY_HOLDS(sizeof(prepay_event) == 9 * sizeof(uint32_t));
 PREPAY_HOLDS(sizeof(prepay_reader) == 2 * sizeof(uint32_t));
+PREPAY_HOLDS(sizeof(prepay_answer) == 2 * sizeof(uint64_t));
+PREPAY_HOLDS(sizeof(prepay_reading) == 5 * sizeof(uint64_t));
+PREPAY_HOLDS(sizeof(prepay_figures) == (11 + PREPAY_CHARGE_KINDS) * sizeof(uint64_t));
 #undef PREPAY_HOLDS
 #undef PREPAY_ALIGN_OF
 #endif
