@@ -158,7 +158,7 @@ typedef struct {
 /* The readings of an account. They have no code: of memory that is no account they are what its numbers say. */
 typedef struct {
     int64_t balance;    /* 0 where credit or debit is above 2^60 */
-    int64_t settled;    /* the settled amount; 0 where a total is above 2^60 */
+    int64_t settled;    /* the settled amount: balance less plan plus estimates; 0 where a total is above 2^60 */
     uint64_t plan;      /* the unpaid plan */
     uint64_t estimates; /* the cost of the standing estimates */
     uint64_t service;   /* 1 on, 0 off */
@@ -212,7 +212,7 @@ uint32_t prepay_version(void);
 
 /* ---- one account */
 
-/* Fills `account` with a fresh account, whatever stood there, and answers 0; or answers 1 and leaves every byte as it was where the terms
+/* Fills `account` with a fresh account, whatever stood there: every number 0 but the terms; and answers 0. Or answers 1 and leaves every byte as it was where the terms
  * are outside their limits. */
 uint8_t prepay_open(prepay_account *account, const prepay_terms *terms);
 

@@ -2,10 +2,7 @@
 //! The same rules as the ledger's are asked of its cells.
 //!
 //! What the header does not say, and is taken so here:
-//! - a fresh account's numbers are 0 but for the terms;
-//! - `balance` is credit less debit, and the settled amount balance less plan plus standing: the comparison takes credit
-//!   and debit by their difference alone;
-//! - `charges` is by month, then kind; bit k - 1 of a day's `marks` is kind k, other bits mean nothing; `warned` 1 is yes;
+//! - which of credit and debit an event raises: the comparison takes their difference alone;
 //! - a payment on a day past 399 lies in no month; a payment's `part` above its `amount` leaves nothing for the balance;
 //! - a read gives back no more of `standing` than it has.
 
