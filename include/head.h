@@ -212,8 +212,8 @@ uint32_t prepay_version(void);
 
 /* ---- one account */
 
-/* Fills `account` with a fresh account, whatever stood there: every number 0 but the terms; and answers 0. Or answers 1 and leaves every byte as it was where the terms
- * are outside their limits. */
+/* Fills `account` with a fresh account, whatever stood there (every number 0 but the terms), and answers 0; or answers 1 and leaves every
+ * byte as it was where the terms are outside their limits. */
 uint8_t prepay_open(prepay_account *account, const prepay_terms *terms);
 
 /* Posts one event. A refused event changes no byte of the account. */
