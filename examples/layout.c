@@ -64,7 +64,7 @@ static const prepay_event events[] = {
 };
 enum { EVENTS = sizeof events / sizeof events[0], REFUSED = 20 };
 
-/* The event with a number in the fields that its sort does not name too, which no call may look at. */
+/* The event with a number in the fields that its sort does not name too, whose value changes no answer. */
 static prepay_event posted(size_t i) {
     uint32_t numbers[9];
     prepay_event e = events[i];

@@ -5,10 +5,11 @@
  *
  * Units: amounts in cents, energy in Wh; days from the opening day, 0 to 399; months from the opening month, 0 to 14.
  *
- * Memory: every pointer must point to memory of the stated size and alignment, readable, and writable where it is not const, for the time
- * of the call. The regions of one call must not overlap. A null pointer is allowed nowhere, not even with a count of 0. No struct has
- * padding. The library has no memory of its own, keeps no pointer after a call, and calls nothing but memcpy and memset. A call that needs a
- * second account is lent one by the caller (`prepay_account *scratch`, or the account to fill); none does yet.
+ * Memory: every pointer must point to memory of the stated size and alignment (8 for an account, 4 for terms, events and readers, 1 for
+ * bytes), readable, and writable where it is not const. During the call nobody else (a task, an interrupt, a transfer) may write any of it,
+ * or read what is not const. The regions of one call must not overlap. A null pointer is allowed nowhere, not even with a count of 0. No
+ * struct has padding. The library has no memory of its own, keeps no pointer after a call, and calls nothing but memcpy and memset. A call
+ * that needs a second account is lent one by the caller (`prepay_account *scratch`, or the account to fill); none does yet.
  *
  * Tasks: there is no global state. Calls on different accounts may run at the same time. Calls on one account must not, except those that
  * take it as const, among each other. The same holds for a prepay_reader.
@@ -101,7 +102,7 @@ typedef struct {
     uint32_t share;            /* per cent of a payment that goes to a deferred payment plan, 0 to 50 */
 } prepay_terms;
 
-/* An event. Only the fields that its sort names are looked at. */
+/* An event. All nine numbers must be set; those that its sort does not name may have any value, and change no answer. */
 typedef struct {
     uint32_t sort;
     uint32_t day;
@@ -110,10 +111,11 @@ typedef struct {
     uint32_t kind;     /* charge, mark, plan */
     uint32_t usage;    /* estimate, read: the usage day */
     uint32_t wh;       /* estimate, read: 0 to 9,999,999 */
-    uint32_t from, to; /* mark: its first and last day */
+    uint32_t from, to; /* mark: its first and last day, day <= from <= to <= 399 */
 } prepay_event;
 
-/* One account: 8,328 bytes, aligned to 8. Its numbers are the library's own; a copy of the bytes is a copy of the account.
+/* One account: 8,328 bytes, aligned to 8. Its numbers are the library's own; a copy of the bytes is a copy of the account, for
+ * machines of the same byte order.
  * Any numbers are read as an account: whatever they are, no call reads or writes elsewhere, wraps a sum or runs without end. They are no
  * account, and every event and every month gets 1, where the terms are outside their limits (as in memory of zeros), `count` is above 128,
  * or one of credit, debit, plan and standing is above 2^60; a charge that nothing else refuses gets 1 where the sum that it adds to is above
@@ -178,7 +180,8 @@ typedef struct {
 } prepay_figures;
 
 /* How far a text has been read: the byte at which the next event starts, and 0; or PREPAY_END or 15, which ended the reading and is
- * answered again, whatever the text. Any other code is read as 15, and stays; a place past the text's end is malformed. */
+ * answered again, whatever the text. Any other code is read as 15, and stays; a place past the text's end is malformed. At the end `place` is
+ * the text's length; at 15 it is where the malformed event starts, and 0 where the terms were malformed. */
 typedef struct {
     uint32_t place, code;
 } prepay_reader;

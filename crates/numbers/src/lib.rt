@@ -15,7 +15,7 @@ use calendar::DAY_COUNT;
 use ledger::{Event, MAX_PAYMENTS, Refusal};
 use marks::DayBytes;
 use moves::{CHARGE_PLACES, Charges, Day, Move, Payment, Totals, Usage};
-use posting::Posts;
+use posting::Postable;
 use terms::Terms;
 
 // The types below are C's: kinds, and yes and no, are numbers there, of which C may hand in any.
@@ -260,7 +260,6 @@ impl Numbers {
     }
 
     // A row of events in order, one code byte each; refused by 16 where the buffer is shorter than the row.
-
     pub fn post_row(&mut self, row: &[Event], codes: &mut [u8]) -> Result<(), Refusal>
         ensures { PostsRowIn self.old row.now codes.old self.new codes.new (code_of result) }
     {
@@ -268,7 +267,7 @@ impl Numbers {
     }
 }
 
-impl Posts for Numbers {
+impl Postable for Numbers {
     ghost account = { λ n. account_in n };
 
     ghost posted = { λ n e. posted_in n e };

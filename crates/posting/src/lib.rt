@@ -34,7 +34,7 @@ pub fn post_by_value(a: Account, e: Event) -> Posted
 }
 
 // What a row is posted to: the record, or C's numbers.
-pub trait Posts {
+pub trait Postable {
     // the account that it is read as, and what an event leaves of it
     ghost account: { Self → Account };
 
@@ -45,7 +45,7 @@ pub trait Posts {
         ensures step { stepped_of (account self.new) result ≡ step_of (account self.old) e };
 }
 
-impl Posts for Account {
+impl Postable for Account {
     ghost account = { λ a. a };
 
     ghost posted = { λ a e. (step_of a e).account };
@@ -56,7 +56,7 @@ impl Posts for Account {
 }
 
 // A row of events in order, one code byte each; refused by 16 where the buffer is shorter than the row.
-pub fn post_each<A: Posts>(a: &mut A, row: &[Event], codes: &mut [u8]) -> Result<(), Refusal>
+pub fn post_each<A: Postable>(a: &mut A, row: &[Event], codes: &mut [u8]) -> Result<(), Refusal>
     ensures account { PostsRow (A.account a.old) row.now codes.old (A.account a.new) codes.new (code_of result) }
     ensures left { a.new ≡ row_left A.posted a.old row.now codes.old }
 {

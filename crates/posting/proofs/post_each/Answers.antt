@@ -9,13 +9,13 @@ loop-i-preserved g c =
     c.post-answer.ensures.left c.post-answer.ensures.step c.code.ensures
 
 pub returns-clause-account : goal.returns-clause-account
-returns-clause-account g c = ends _ g.A.Posts.posted _ _ _ _ _ _ (search rules) c.loop-i-test.false c.loop-i.invariant
+returns-clause-account g c = ends _ g.A.Postable.posted _ _ _ _ _ _ (search rules) c.loop-i-test.false c.loop-i.invariant
 
 pub returns-clause-left : goal.returns-clause-left
-returns-clause-left g c = ends-left g.A.Posts.account _ _ _ _ _ _ _ (search rules) c.loop-i-test.false c.loop-i.invariant
+returns-clause-left g c = ends-left g.A.Postable.account _ _ _ _ _ _ _ (search rules) c.loop-i-test.false c.loop-i.invariant
 
 pub returns-then-codes-row-clause-account : goal.returns-then-codes-row-clause-account
-returns-then-codes-row-clause-account g c = short g.A.Posts.account g.A.Posts.posted c.args.a.now _ _ (search rules)
+returns-then-codes-row-clause-account g c = short g.A.Postable.account g.A.Postable.posted c.args.a.now _ _ (search rules)
 
 pub returns-then-codes-row-clause-left : goal.returns-then-codes-row-clause-left
-returns-then-codes-row-clause-left g c = short-left g.A.Posts.account _ _ _ _ (search rules)
+returns-then-codes-row-clause-left g c = short-left g.A.Postable.account _ _ _ _ (search rules)

@@ -4,7 +4,7 @@ use Rattle.posting.proofs.RowTurn.{Fine}
 use Rattle.posting.proofs.post_each.Given as goal
 
 abbrev pub invariant-loop-i : goal.invariant-loop-i
-invariant-loop-i g l = Fine g.A.Posts.account g.A.Posts.posted l.fn.a l.fn.row l.fn.codes l.i l.a l.codes
+invariant-loop-i g l = Fine g.A.Postable.account g.A.Postable.posted l.fn.a l.fn.row l.fn.codes l.i l.a l.codes
 
 abbrev pub decreases-loop-i : goal.decreases-loop-i
 decreases-loop-i g l = length l.row - l.i
