@@ -277,6 +277,66 @@ static void reading(void) {
         expect(r.before[i] == 0xA5 && r.after[i] == 0xA5, "the reading calls write inside what is lent");
 }
 
+/* Each code by its name, from an account where it applies; the kinds by document 01's numbers, and by what tells them apart. */
+static void names(void) {
+    static const struct {
+        prepay_event event;
+        uint64_t code;
+    } posts[] = {
+        {{.sort = PREPAY_PAY, .day = PREPAY_DAYS, .amount = 1}, PREPAY_BAD_DAY},
+        {{.sort = PREPAY_CONNECT + 1}, PREPAY_BAD_FIELD},
+        {{.sort = PREPAY_REVERSE, .number = 0}, PREPAY_BAD_PAYMENT},
+        {{.sort = PREPAY_ESTIMATE, .usage = 0}, PREPAY_USAGE_NOT_PAST},
+        {{.sort = PREPAY_ESTIMATE, .day = 1, .usage = 0}, PREPAY_OK},
+        {{.sort = PREPAY_ESTIMATE, .day = 1, .usage = 0}, PREPAY_USAGE_NOT_BLANK},
+        {{.sort = PREPAY_PLAN, .day = 1, .kind = PREPAY_PLAN_KIND_OFFERED}, PREPAY_PLAN_NOT_ALLOWED},
+        {{.sort = PREPAY_CHARGE, .day = 1, .kind = PREPAY_CHARGE_OTHER, .amount = 6000}, PREPAY_OK},
+        {{.sort = PREPAY_DISCONNECT, .day = 1}, PREPAY_SERVICE_AS_ASKED},
+        {{.sort = PREPAY_CONNECT, .day = 1}, PREPAY_BAD_BALANCE},
+        {{.sort = PREPAY_MARK, .day = 1, .kind = PREPAY_MARK_PAYMENT_DOWN, .from = 1, .to = 2}, PREPAY_OK},
+        {{.sort = PREPAY_MARK, .day = 1, .kind = PREPAY_MARK_PLEDGE, .from = 1, .to = 1}, PREPAY_OK},
+        {{.sort = PREPAY_PLAN, .day = 1, .kind = PREPAY_PLAN_KIND_REQUIRED}, PREPAY_PLAN_NOT_ALLOWED},
+        {{.sort = PREPAY_MARK, .day = 1, .kind = PREPAY_MARK_WEATHER, .from = 1, .to = 1}, PREPAY_OK},
+        {{.sort = PREPAY_PLAN, .day = 1, .kind = PREPAY_PLAN_KIND_REQUIRED}, PREPAY_OK},
+        {{.sort = PREPAY_CHARGE, .day = 1, .kind = PREPAY_CHARGE_OTHER, .amount = 6000}, PREPAY_OK},
+        {{.sort = PREPAY_PLAN, .day = 1, .kind = PREPAY_PLAN_KIND_OFFERED}, PREPAY_PLAN_UNPAID},
+        {{.sort = PREPAY_CREDIT, .day = 1, .amount = 6000}, PREPAY_OK},
+        {{.sort = PREPAY_CONNECT, .day = 1}, PREPAY_OK},
+        {{.sort = PREPAY_CHARGE, .day = 1, .kind = PREPAY_CHARGE_OTHER, .amount = 6000}, PREPAY_OK},
+        {{.sort = PREPAY_DISCONNECT, .day = 1}, PREPAY_NO_WARNING},
+        {{.sort = PREPAY_WARN, .day = 1}, PREPAY_OK},
+        {{.sort = PREPAY_DISCONNECT, .day = 2}, PREPAY_DAY_BARRED},
+    };
+    prepay_account account;
+    memset(&account, 0, sizeof account);
+    expect(prepay_post(&account, &posts[0].event).code == PREPAY_NO_ACCOUNT, "zeros are no account");
+    expect(prepay_open(&account, &terms) == PREPAY_OK, "prepay_open answers 0");
+    for (size_t i = 0; i < sizeof posts / sizeof posts[0]; i++)
+        if (prepay_post(&account, &posts[i].event).code != posts[i].code) {
+            printf("WRONG: the name of the code of event %zu\n", i);
+            wrong = 1;
+        }
+    prepay_reading r = prepay_readings(&account);
+    expect(r.balance < 0 && r.settled < 0, "a sum below 0 is below 0");
+    expect(account.marks[1] == (1 << (PREPAY_MARK_WEATHER - 1) | 1 << (PREPAY_MARK_PAYMENT_DOWN - 1) | 1 << (PREPAY_MARK_PLEDGE - 1)), "the marks of a day");
+    const prepay_event pay = {.sort = PREPAY_PAY, .day = 2, .amount = 1}, credit = {.sort = PREPAY_CREDIT, .day = 2, .amount = 1};
+    for (int n = 0; n < PREPAY_MAX_PAYMENTS; n++)
+        expect(prepay_post(&account, &pay).code == PREPAY_OK, "PREPAY_MAX_PAYMENTS payments are accepted");
+    expect(prepay_post(&account, &pay).code == PREPAY_PAYMENTS_FULL, "and no more");
+    while (account.totals.events < PREPAY_MAX_EVENTS && prepay_post(&account, &credit).code == PREPAY_OK) {}
+    expect(account.totals.events == PREPAY_MAX_EVENTS, "PREPAY_MAX_EVENTS events are accepted");
+    expect(prepay_post(&account, &credit).code == PREPAY_EVENTS_FULL, "and no more");
+    uint8_t code;
+    expect(prepay_row(&account, &pay, 1, &code, 0) == PREPAY_SHORT_BUFFER, "a row longer than its buffer");
+    prepay_reader reader;
+    prepay_terms unread;
+    expect(prepay_read_terms((const uint8_t *)"x\n", 2, &reader, &unread) == PREPAY_BAD_TEXT, "a malformed text");
+    expect(PREPAY_CHARGE_DELIVERY == 1 && PREPAY_CHARGE_TAX == 2 && PREPAY_CHARGE_RECONNECTION == 3 && PREPAY_CHARGE_RETURNED_PAYMENT == 4
+               && PREPAY_CHARGE_OTHER == 5, "document 01: 1 delivery utility charge, 2 tax, 3 reconnection fee, 4 returned payment fee, 5 other");
+    expect(PREPAY_MARK_WEATHER == 1 && PREPAY_MARK_PAYMENT_DOWN == 2 && PREPAY_MARK_PLEDGE == 3,
+           "document 01: 1 extreme weather emergency, 2 payment means down, 3 confirmed assistance pledge");
+}
+
 int main(int argc, char **argv) {
     if (argc == 2 && strcmp(argv[1], "print") == 0) {
         print();
@@ -288,6 +348,7 @@ int main(int argc, char **argv) {
     account_fields();
     rows();
     reading();
+    names();
     puts(wrong ? "layout: WRONG" : "layout: as head.h has it");
     return wrong;
 }
