@@ -3,7 +3,8 @@
 # slow reference (compare/reference) and a bare copy of the account. Both sides in one run, release builds, the same inputs, medians of
 # SAMPLES (default 201) runs in turn, on one core. Needs crates/head/out/libhead.a and crates/prepay/out/prepay (rt lib in crates/head, rt run
 # </dev/null in crates/prepay), cargo and a C compiler; valgrind for the counted instructions. HEAD_LIB and HEAD_BIN name other folders.
-# Everything is built in bench/rust/target. About a minute. The status is 1 where a call has more stack than it may.
+# Everything is built in bench/rust/target. About a minute. The status is 0; 1 where a call has more stack than it may, or the programs do not
+# print the same; 2 where it could not run: then it says what is missing.
 set -euo pipefail
 cd "$(dirname "$0")"
 samples=${1:-201}
@@ -11,6 +12,15 @@ lib=${HEAD_LIB:-../crates/head/out}
 bin=${HEAD_BIN:-../crates/prepay/out}
 target=$PWD/rust/target
 work=$target/bench
+
+missing=0
+need() { "${@:2}" || { echo "bench/run.sh: no $1" >&2; missing=1; }; }
+need "cargo" command -v cargo >/dev/null
+need "C compiler ${CC:-cc} (CC names another)" command -v "${CC:-cc}" >/dev/null
+need "$lib/libhead.a: run rt lib in crates/head first" test -e "$lib/libhead.a"
+need "$bin/prepay: run rt run </dev/null in crates/prepay first" test -x "$bin/prepay"
+[[ $missing == 0 ]] || exit 2
+command -v valgrind >/dev/null || echo "bench/run.sh: no valgrind: the instructions are not counted" >&2
 mkdir -p "$work"
 
 # Copies: they may be built anew while this runs.
@@ -37,8 +47,8 @@ echo "libhead.a $(sha256sum libhead.a | cut -c1-12) of $(date -u -r "$OLDPWD/$li
 
 # First that they agree; cargo test in rust/ is the long comparison.
 for program in prepay prepay_fast prepay_ref; do ./$program <text >$program.out; done
-cmp prepay.out prepay_fast.out
-cmp prepay.out prepay_ref.out
+cmp prepay.out prepay_fast.out || exit 1
+cmp prepay.out prepay_ref.out || exit 1
 echo "prepay, prepay_fast and prepay_ref print the same for the text of (c)."
 echo
 "${one[@]}" ./measure times "$samples"

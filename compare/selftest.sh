@@ -3,13 +3,21 @@
 # mistake each (mutants.txt), as programs and as a library behind the C interface
 # (src/shim.rs), and compares them with the reference: every one of them must be
 # found. Arguments: texts and lists of calls per mutant (default 3000), seed
-# (default 7), and a pattern to pick mutants by (default all).
+# (default 7), and a pattern to pick mutants by (default all). Needs cargo, the C
+# compiler that it links with, and perl. The status is 0 if every mistake was
+# found, 1 if not, 2 where it could not run: then it says what is missing.
 set -euo pipefail
 cd "$(dirname "$0")"
 count=${1:-3000}
 seed=${2:-7}
 pattern=${3:-.}
 
+missing=0
+need() { "${@:2}" || { echo "compare/selftest.sh: no $1" >&2; missing=1; }; }
+need "cargo" command -v cargo >/dev/null
+need "C compiler cc, which cargo links with" command -v cc >/dev/null
+need "perl" command -v perl >/dev/null
+[[ $missing == 0 ]] || exit 2
 work=$(mktemp -d)
 trap 'rm -rf "$work"' EXIT
 # A copy of the reference, beside the header as here.
@@ -39,7 +47,7 @@ build
     unset CARGO_PROFILE_RELEASE_OVERFLOW_CHECKS CARGO_PROFILE_RELEASE_DEBUG_ASSERTIONS CARGO_PROFILE_RELEASE_OPT_LEVEL
     HEAD_LIBRARY=$work/target/release/examples/libshim.so CARGO_TARGET_DIR=$work/own cargo build --release --offline --quiet \
         --manifest-path reference/Cargo.toml
-)
+) || exit 2
 compare=$work/own/release/compare
 status=0
 run --texts 300 --lists 300 || status=$?
@@ -55,7 +63,7 @@ while IFS='|' read -r name file change; do
     [[ -z $name || $name == \#* ]] && continue
     [[ $name =~ $pattern ]] || continue
     copy
-    perl -0pi -e "$change" "$mutant/src/$file"
+    perl -0pi -e "$change" "$mutant/src/$file" || exit 2
     if cmp -s "reference/src/$file" "$mutant/src/$file"; then
         echo "NOT APPLIED  $name"
         missed=$((missed + 1))

@@ -1,7 +1,8 @@
 #!/usr/bin/env bash
 # The C interface from outside: builds the library where it is missing or older than the crates, and the programs here, runs them, and holds
 # them to the stored output and to the programs `prepay` and `summary`. Needs `rt`, python3 and a C compiler. What else it would use and does
-# not find, it says. The last line is `examples: passed`, the status 0, if all held. Of the repository it writes target/ and the crates' out/.
+# not find, it says. The last line is `examples: passed`, the status 0, if all held; the status is 1 where something did not, and 2 where it
+# could not run: then it says what is missing. Of the repository it writes target/ and the crates' out/.
 #   examples/run.sh          all: the header as C99, C11 and C++11, what the library calls, the structs as Rattle proves them (some minutes
 #                            after a change of the crates), strange memory, and the programs under valgrind
 #   examples/run.sh gate     the gate's part: the example, and the structs by what the library does
@@ -13,7 +14,13 @@ library=crates/head/out/libhead.a
 work=target/examples
 mkdir -p "$work"
 failed=0
+missing=0
 say() { echo "examples: $*"; }
+need() { command -v "$1" >"$work/log" || { say "no $2"; missing=1; }; }
+need rt "rt: the Rattle kit"
+need "$CC" "C compiler $CC (CC names another)"
+need python3 "python3"
+[[ $missing == 0 ]] || exit 2
 fail() { say "FAILED: $*"; failed=1; }
 # Runs a command, and tells what it said only where it fails.
 quiet() { "$@" >"$work/log" 2>&1 || { tail -20 "$work/log"; say "FAILED: $*"; exit 1; }; }
