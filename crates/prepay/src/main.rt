@@ -1,5 +1,5 @@
-// `prepay`: an event text on standard input, its transcript on standard output.
-// It uses the event text's limit and the transcript. A read or a write that fails ends the program with its error.
+// `prepay`: an event text on standard input, its transcript on standard output, and where the text breaks its form on standard error.
+// It uses the event text's limit, the transcript and the diagnostics. A read or a write that fails ends the program with its error.
 // Of a text that is too long it reads one byte more than the limit, which `as` widens: usize has no `From` into u64.
 // (For the lines that read, a crate of the programs would be no shorter.)
 #![tactic(auto)]
@@ -21,5 +21,6 @@ fn main(rt: HostRuntime) -> io::Result<()> {
         let length = progress.piece(&text, &mut out);
         writer.write_all(&out[..length])?;
     }
-    Ok(())
+    let length = diagnostics::message(&text, &mut out);
+    rt.stderr().write_all(&out[..length])
 }

@@ -1,2 +1,3 @@
-pub mod Words
+pub mod Breaks
 pub mod Laws
+pub mod Words

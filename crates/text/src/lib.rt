@@ -1,12 +1,14 @@
 // Event text: the terms and one event, read from its lines. Each function reads from the start of a text and answers what it read with the text's
 // rest, or none where the text breaks the form.
-// It uses the scanner of the lines, the ledger's event, the terms and the calendar's date. Its promises cite specs/Text.antt, and inside the
-// crate specs/Words.antt.
+// `form_of` says of a whole text whether it keeps the form, and where it breaks it.
+// It uses the scanner of the lines, the ledger's event, the terms and the calendar's date. Its promises cite specs/Text.antt and specs/Form.antt,
+// and inside the crate specs/Words.antt.
 #![tactic(auto)]
 
 ghost use Rattle.std.specs.Prelude.{◌≡◌, ◌+◌, ◌≤◌, length, IfSome};
 ghost use Rattle.scanner.specs.Scanner.{IsRead};
 ghost use Rattle.text.specs.Text.{max_text, read_terms, terms_in, sorts, fields_in, read_sort, read_fields, read_event};
+ghost use Rattle.text.specs.Form.{line_after, EventsSuffice, form_of};
 ghost use Rattle.text.specs.Words.{sort_of};
 
 use ledger::Event;
@@ -124,4 +126,52 @@ pub fn read_event(text: &[u8]) -> Option<(Event, &[u8])>
         ..Event::default()
     };
     read_fields(rest, event)
+}
+
+// ---- a whole text
+
+// How a text stands to its form.
+#[derive(Clone, Copy, Debug, PartialEq, Eq)]
+pub enum Form {
+    Sound,
+    TooLong,
+    // its terms break it
+    Terms,
+    // an event breaks it: which, and the line at which that event begins, both from 1
+    Event { ordinal: u32, line: u32 },
+}
+
+// The line that starts after these bytes, of which a text has no more.
+fn line_after(before: &[u8]) -> u32
+    requires { length before.now ≤ max_text }
+    ensures { result ≡ line_after before.now }
+{
+    (before.iter().filter(|byte| **byte == b'\n').count() + 1) as u32
+}
+
+// The definition of the events' form counts them down, which cuts nothing off.
+pub fn count_suffices()
+    ensures { EventsSuffice }
+{}
+
+// Whether a text keeps its form, and else what breaks it.
+pub fn form_of(text: &[u8]) -> Form
+    ensures { result ≡ form_of text.now }
+{
+    if text.len() > MAX_TEXT {
+        return Form::TooLong;
+    }
+    let Some((_, mut rest)) = read_terms(text) else {
+        return Form::Terms;
+    };
+    let mut ordinal = 1;
+    while !rest.is_empty() {
+        let Some((_, after)) = read_event(rest) else {
+            let line = line_after(&text[..text.len() - rest.len()]);
+            return Form::Event { ordinal, line };
+        };
+        rest = after;
+        ordinal += 1;
+    }
+    Form::Sound
 }

@@ -1,0 +1,253 @@
+#!/bin/bash
+# The programs `prepay` and `summary` in rough hands: broken texts, and inputs and outputs that fail. It needs both programs as built, and python3.
+#   bash tools/programs.sh           tries each case: standard output, standard error and status (a line for each that isn't as expected)
+#   bash tools/programs.sh --stack   measures the least stack with which each ran every time
+# Status 0: all as expected; 1: something is not; 2: something is missing, which it names.
+cd "$(dirname "$0")/.." || exit 2
+command -v python3 > /dev/null || { echo "programs.sh: python3 is missing"; exit 2; }
+for program in prepay summary; do
+    if [[ ! -x crates/$program/out/$program ]]; then
+        echo "programs.sh: crates/$program/out/$program is missing: (cd crates/$program && rt run < /dev/null) builds it"
+        exit 2
+    fi
+done
+exec python3 - "$@" << 'PYTHON'
+import fcntl, os, resource, signal, subprocess, sys, threading, time
+
+PROGRAMS = {name: os.path.abspath(f"crates/{name}/out/{name}") for name in ("prepay", "summary")}
+
+
+def stored(path):
+    with open(path, "rb") as file:
+        return file.read()
+
+
+WORKED = stored("crates/prepay/stdin")
+WORKED_LINES = stored("crates/prepay/stdout").splitlines(keepends=True)
+SUMMARY_TEXT = stored("crates/summary/stdin")
+SUMMARY_LINES = stored("crates/summary/stdout")
+# its event 318 breaks the form, as its make_text.py says
+SUMMARY_SAID = b"line 1156: event 318 breaks the form\n"
+
+# a text of exactly 65,536 bytes: warnings of 14 bytes on day 0, then of 15 bytes on day 10; the first 4,096 are accepted
+TERMS = b"".join(WORKED.splitlines(keepends=True)[:5])
+LEFT = 65536 - len(TERMS)
+LONGER = LEFT % 14
+SHORTER = (LEFT - 15 * LONGER) // 14
+LONGEST = TERMS + b"day=0\ndo=warn\n" * SHORTER + b"day=10\ndo=warn\n" * LONGER
+assert len(LONGEST) == 65536
+LONGEST_LINES = b"".join(b"n=%d code=%d value=0 balance=0 plan=0\n" % (n, 0 if n <= 4096 else 4) for n in range(1, SHORTER + LONGER + 1))
+LONGEST_LINES += b"settled=0 estimates=0\n"
+
+
+def limited(stack):
+    return None if stack is None else lambda: resource.setrlimit(resource.RLIMIT_STACK, (stack, stack))
+
+
+def run(name, text, stack=None):
+    done = subprocess.run([PROGRAMS[name]], input=text, capture_output=True, preexec_fn=limited(stack), timeout=60)
+    return done.stdout, done.stderr, done.returncode
+
+
+# ---- the least stack
+
+def least_stack(name, text):
+    sound = run(name, text)
+    holds = None
+    for kib in range(320, 15, -4):
+        if any(run(name, text, kib * 1024) != sound for _ in range(60)):
+            return holds
+        holds = kib
+    return holds
+
+
+if sys.argv[1:] == ["--stack"]:
+    size = sum(len(key) + len(value) + 2 for key, value in os.environb.items())
+    for name in PROGRAMS:
+        for title, text in ("the worked example", WORKED), ("65,536 bytes", LONGEST), ("a text too long", LONGEST + b"\n"):
+            print(f"{name}, {title}: {least_stack(name, text)} KiB, 60 runs of 60 (environment of {size} bytes)")
+    sys.exit(0)
+
+# ---- what is expected
+
+cases = failures = 0
+
+
+def expect(title, got, wanted):
+    global cases, failures
+    cases += 1
+    for part, is_, was in zip(("standard output", "standard error", "status"), got, wanted):
+        if is_ != was:
+            failures += 1
+            print(f"{title}: {part} is {is_!r:.300}, expected {was!r:.300}")
+
+
+def failed(code, kind):
+    return f'Error: Os {{ code: {code}, kind: {kind}, message: "{os.strerror(code)}" }}\n'.encode()
+
+
+CLOSED = failed(9, "Uncategorized")
+FULL = failed(28, "StorageFull")
+NO_READER = failed(32, "BrokenPipe")
+NOT_NOW = failed(11, "WouldBlock")
+DIRECTORY = failed(21, "IsADirectory")
+REFUSED_TERMS = b"n=0 code=%d value=0 balance=0 plan=0\n"
+
+# ---- texts that break the form
+
+lines = WORKED.splitlines(keepends=True)
+
+
+def with_line(number, line):
+    return b"".join(lines[:number - 1] + [line] + lines[number:])
+
+
+def broken_at(event, line, balance, settled, estimates=0):
+    """what `prepay` prints: the lines before the event, its line with code 15, the last line; and the message"""
+    out = b"".join(WORKED_LINES[:event - 1]) + b"n=%d code=15 value=0 balance=%d plan=0\n" % (event, balance)
+    return out + b"settled=%d estimates=%d\n" % (settled, estimates), b"line %d: event %d breaks the form\n" % (line, event)
+
+
+IN_TERMS = REFUSED_TERMS % 15, b"line 1: the terms break the form\n"
+TOO_LONG = REFUSED_TERMS % 15, b"the text is longer than 65536 bytes\n"
+
+# a text, what `prepay` prints and says of it, and the text of which `summary` prints the same months
+TEXTS = [
+    ("sound", WORKED, (b"".join(WORKED_LINES), b""), WORKED),
+    ("no bytes", b"", IN_TERMS, None),
+    ("terms alone", TERMS, (b"settled=0 estimates=0\n", b""), TERMS),
+    ("first line of the terms", with_line(1, b"open=2024-1-01\n"), IN_TERMS, None),
+    ("last line of the terms", with_line(5, b"share=050\n"), IN_TERMS, None),
+    ("terms cut off", TERMS[:-1], IN_TERMS, None),
+    ("first line of the first event", with_line(6, b"day=00\n"), broken_at(1, 6, 0, 0), TERMS),
+    ("last line of the first event", with_line(8, b"amount=\n"), broken_at(1, 6, 0, 0), TERMS),
+    ("first line of an event", with_line(19, b"day=-3\n"), broken_at(5, 19, 5600, 5600), b"".join(lines[:18])),
+    ("second line of an event", with_line(20, b"do=warm\n"), broken_at(5, 19, 5600, 5600), b"".join(lines[:18])),
+    ("last line of an event", with_line(18, b"wh=32000 \n"), broken_at(4, 15, 5625, 6000, 375), b"".join(lines[:14])),
+    ("a line left out", with_line(17, b""), broken_at(4, 15, 5625, 6000, 375), b"".join(lines[:14])),
+    ("two breaks", with_line(18, b"\n")[:-1], broken_at(4, 15, 5625, 6000, 375), b"".join(lines[:14])),
+    ("last line not ended", WORKED[:-1], broken_at(10, 32, 4900, 4900), b"".join(lines[:31])),
+    ("a byte after the last event", WORKED + b"d", broken_at(11, 34, 4900, 4900), WORKED),
+    ("a line feed after the last event", WORKED + b"\n", broken_at(11, 34, 4900, 4900), WORKED),
+    ("half an event after the last event", WORKED + b"day=6\n", broken_at(11, 34, 4900, 4900), WORKED),
+    ("zero bytes after the last event", WORKED + bytes(20), broken_at(11, 34, 4900, 4900), WORKED),
+    ("65,536 bytes", LONGEST, (LONGEST_LINES, b""), TERMS + b"day=0\ndo=warn\n"),
+    ("65,537 bytes", LONGEST + b"\n", TOO_LONG, None),
+    ("too long by far", WORKED * 1000, TOO_LONG, None),
+    ("refused terms", with_line(1, b"open=2023-02-29\n"), (REFUSED_TERMS % 1, b""), None),
+    ("refused terms and a broken event", with_line(1, b"open=2023-02-29\n")[:-1], (REFUSED_TERMS % 1, b"line 32: event 10 breaks the form\n"), None),
+]
+
+for title, text, (out, message), sound in TEXTS:
+    expect(f"prepay, {title}", run("prepay", text), (out, message, 0))
+    months = out if sound is None else run("summary", sound)[0]
+    expect(f"summary, {title}", run("summary", text), (months, message, 0))
+expect("summary, its stored text", run("summary", SUMMARY_TEXT), (SUMMARY_LINES, SUMMARY_SAID, 0))
+
+# ---- streams that fail
+
+BROKEN = WORKED + b"\n"
+AFTER = b"line 34: event 11 breaks the form\n"
+
+
+def started(name, text, **streams):
+    """runs on a text in a file, or on the standard input that `streams` has"""
+    if text is not None:
+        source = os.memfd_create("text")
+        os.write(source, text)
+        os.lseek(source, 0, os.SEEK_SET)
+        streams["stdin"] = source
+    streams = {"stdout": subprocess.PIPE, "stderr": subprocess.PIPE, **streams}
+    process = subprocess.Popen([PROGRAMS[name]], restore_signals=False, **streams)
+    if text is not None:
+        os.close(source)
+    return process
+
+
+def ended(process):
+    out, err = process.communicate(timeout=60)
+    return out or b"", err or b"", process.returncode
+
+
+def closing(*numbers):
+    def close():
+        for number in numbers:
+            os.close(number)
+    return close
+
+
+def sigpipe(action):
+    return lambda: signal.signal(signal.SIGPIPE, action)
+
+
+def pipe_in_hand(name, text, filled, flags, read_first, action=signal.SIG_DFL):
+    """standard output is a pipe: so many bytes stand in it, `read_first` are read, then the reader is closed or reads slowly to the end"""
+    reader, writer = os.pipe()
+    fcntl.fcntl(writer, fcntl.F_SETPIPE_SZ, 4096)
+    os.write(writer, bytes(filled))
+    if flags:
+        fcntl.fcntl(writer, fcntl.F_SETFL, fcntl.fcntl(writer, fcntl.F_GETFL) | flags)
+    process = started(name, text, stdout=writer, preexec_fn=sigpipe(action))
+    os.close(writer)
+    got = b""
+    if read_first is None:
+        time.sleep(0.3)
+        while part := os.read(reader, 512):
+            got += part
+            time.sleep(0.0002)
+    else:
+        while len(got) < read_first:
+            got += os.read(reader, read_first - len(got))
+        time.sleep(0.1)
+    os.close(reader)
+    _, err, status = ended(process)
+    return got[filled:], err, status
+
+
+for name in PROGRAMS:
+    months = run("summary", WORKED)[0]
+    whole = b"".join(WORKED_LINES) if name == "prepay" else months
+    last = broken_at(11, 34, 4900, 4900)[0] if name == "prepay" else months
+    for kind, text in ("sound", WORKED), ("broken", BROKEN):
+        with open("/dev/full", "wb") as full:
+            expect(f"{name}, {kind}, full device", ended(started(name, text, stdout=full)), (b"", FULL, 1))
+        expect(f"{name}, {kind}, closed output", ended(started(name, text, preexec_fn=closing(1))), (b"", CLOSED, 1))
+    with open("/dev/full", "wb") as full:
+        expect(f"{name}, sound, full standard error", ended(started(name, WORKED, stderr=full)), (whole, b"", 0))
+        expect(f"{name}, broken, full standard error", ended(started(name, BROKEN, stderr=full)), (last, b"", 1))
+    expect(f"{name}, sound, closed standard error", ended(started(name, WORKED, preexec_fn=closing(2))), (whole, b"", 0))
+    expect(f"{name}, broken, closed standard error", ended(started(name, BROKEN, preexec_fn=closing(2))), (last, b"", 1))
+
+    expect(f"{name}, closed input", ended(started(name, None, preexec_fn=closing(0))), (b"", CLOSED, 1))
+    folder = os.open("/", os.O_RDONLY)
+    expect(f"{name}, a directory as input", ended(started(name, None, stdin=folder)), (b"", DIRECTORY, 1))
+    os.close(folder)
+    reader, writer = os.pipe()
+    os.set_blocking(reader, False)
+    expect(f"{name}, an input that has nothing yet", ended(started(name, None, stdin=reader)), (b"", NOT_NOW, 1))
+    os.close(reader)
+    os.close(writer)
+    process = started(name, None, stdin=subprocess.PIPE)
+    for place in range(0, len(BROKEN), 7):
+        process.stdin.write(BROKEN[place:place + 7])
+        process.stdin.flush()
+        time.sleep(0.001)
+    expect(f"{name}, broken, a slow input", ended(process), (last, AFTER, 0))
+
+# Half way: `prepay` on the longest text prints more than a pipe holds. `summary` writes once, all of it or nothing, and waits where the pipe is full.
+# A program ignores SIGPIPE, however it is started.
+for how, action in ("SIGPIPE ignored", signal.SIG_IGN), ("SIGPIPE as it is", signal.SIG_DFL):
+    closed = pipe_in_hand("prepay", LONGEST, 0, 0, 6000, action)
+    expect(f"prepay, output closed half way, {how}", closed, (LONGEST_LINES[:6000], NO_READER, 1))
+    closed = pipe_in_hand("summary", WORKED, 4096, 0, 0, action)
+    expect(f"summary, output closed half way, {how}", closed, (b"", NO_READER, 1))
+expect("prepay, a slow output", pipe_in_hand("prepay", LONGEST, 0, 0, None), (LONGEST_LINES, b"", 0))
+part, said, status = pipe_in_hand("prepay", LONGEST, 0, os.O_NONBLOCK, None)
+expect("prepay, a slow non-blocking output", (part, said, status), (LONGEST_LINES[:len(part)], NOT_NOW, 1))
+expect("prepay, a slow non-blocking output, some of the lines", (0 < len(part) < len(LONGEST_LINES),), (True,))
+expect("summary, a slow output", pipe_in_hand("summary", SUMMARY_TEXT, 4096, 0, None), (SUMMARY_LINES, SUMMARY_SAID, 0))
+expect("summary, a slow non-blocking output", pipe_in_hand("summary", SUMMARY_TEXT, 4096, os.O_NONBLOCK, None), (b"", NOT_NOW, 1))
+
+print(f"{cases} cases, {failures} failures")
+sys.exit(1 if failures else 0)
+PYTHON
