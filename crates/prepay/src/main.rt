@@ -21,6 +21,10 @@ fn main(rt: HostRuntime) -> io::Result<()> {
         let length = progress.piece(&text, &mut out);
         writer.write_all(&out[..length])?;
     }
-    let length = diagnostics::message(&text, &mut out);
-    rt.stderr().write_all(&out[..length])
+    // A text of good terms that was read to its end keeps the form: it is not read again.
+    if progress.at < text.len() || progress.code != 0 {
+        let length = diagnostics::message(&text, &mut out);
+        rt.stderr().write_all(&out[..length])?;
+    }
+    Ok(())
 }
