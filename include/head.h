@@ -105,11 +105,11 @@ typedef struct {
 /* An event. All nine numbers must be set; those that its sort does not name may have any value, and change no answer. */
 typedef struct {
     uint32_t sort;
-    uint32_t day;
+    uint32_t day;      /* 0 to 399, not before the last accepted event's */
     uint32_t amount;   /* pay, credit, charge: 1 to 10,000,000 */
     uint32_t number;   /* reverse: the payment's number, the value that its pay was answered */
-    uint32_t kind;     /* charge, mark, plan */
-    uint32_t usage;    /* estimate, read: the usage day */
+    uint32_t kind;     /* charge 1 to 5, mark 1 to 3, plan 1 or 2 */
+    uint32_t usage;    /* estimate, read: the usage day, before `day` */
     uint32_t wh;       /* estimate, read: 0 to 9,999,999 */
     uint32_t from, to; /* mark: its first and last day, day <= from <= to <= 399 */
 } prepay_event;
