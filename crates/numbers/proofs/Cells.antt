@@ -16,7 +16,7 @@ use Rattle.moves.specs.declared.Totals.{Totals}
 use Rattle.account.specs.Step.{usage_at, day_at, with_cells}
 use Rattle.account.specs.declared.Account.{Account}
 use Rattle.numbers.specs.declared.Numbers.{Numbers}
-use Rattle.numbers.specs.Numbers.{is_yes, yes_no, usage_in, day_in, payment_in, totals_in, account_in, usage_numbers, day_numbers, payment_numbers, totals_numbers, numbers_of, with_move, NumbersComeBack}
+use Rattle.numbers.specs.Numbers.{is_yes, yes_no, usage_by_state, day_in, payment_in, totals_in, account_in, usage_numbers, day_numbers, payment_numbers, totals_numbers, numbers_of, with_move, NumbersComeBack}
 
 -- ---- through a list
 
@@ -30,8 +30,8 @@ yes-back : (b : Bool) → is_yes (yes_no b) ≡ b
 yes-back true = refl
 yes-back false = refl
 
-usage-back : (u : Usage) → usage_in (usage_numbers u) ≡ u
-unfolding usage_in
+usage-back : (u : Usage) → usage_by_state (usage_numbers u) ≡ u
+unfolding usage_by_state
 usage-back Blank = refl
 usage-back (Estimated wh cost) = refl
 usage-back (Metered wh cost) = refl

@@ -33,11 +33,11 @@ yes_no b = cond b 1 0
 -- ---- the account that any numbers are read as
 
 -- a usage day: state 1 is estimated, 2 metered, any other blank
-unfoldable pub usage_in : DayNumbers → Usage
-usage_in d = cond (eqb d.state 1) (Estimated d.wh d.cost) (cond (eqb d.state 2) (Metered d.wh d.cost) Blank)
+unfoldable pub usage_by_state : DayNumbers → Usage
+usage_by_state d = cond (eqb d.state 1) (Estimated d.wh d.cost) (cond (eqb d.state 2) (Metered d.wh d.cost) Blank)
 
 abbrev pub day_in : DayNumbers → Day
-day_in d = record { usage = usage_in d }
+day_in d = record { usage = usage_by_state d }
 
 unfoldable pub payment_in : PaymentNumbers → Payment
 payment_in p = record { day = p.day; amount = p.amount; part = p.part; reversed = is_yes p.reversed }

@@ -77,7 +77,7 @@ pub struct Numbers {
 impl From<DayNumbers> for Day {
     ghost from_gives = { λ n d. d ≡ day_in n };
 
-    #[tactic(auto, unfolding(crate::specs::Numbers::usage_in))]
+    #[tactic(auto, unfolding(crate::specs::Numbers::usage_by_state))]
     fn from(numbers: DayNumbers) -> Day {
         let DayNumbers { state, wh, cost } = numbers;
         let usage = match state {
