@@ -29,7 +29,7 @@
 
 /* The version of this interface: another number where a call, a struct or the meaning of an account's numbers is another. An account that
  * is kept over a change of firmware is kept with this number; its own numbers do not have it. */
-#define PREPAY_VERSION 2
+#define PREPAY_VERSION 3
 
 /* Limits. */
 #define PREPAY_DAYS 400
@@ -37,17 +37,18 @@
 #define PREPAY_CHARGE_KINDS 5
 #define PREPAY_MAX_EVENTS 4096
 #define PREPAY_MAX_PAYMENTS 128
+#define PREPAY_PRICE_CELLS 17
 #define PREPAY_MAX_TEXT 65536
 /* The output buffers of prepay_transcript and prepay_statement. */
 #define PREPAY_TRANSCRIPT_ROOM 655360
 #define PREPAY_STATEMENT_ROOM 8192
 
-/* Codes. Where several of 1 to 14 apply to an account's event, the lowest is given. */
+/* Codes. Where several of 1 to 14 and 17 apply to an account's event, the lowest is given. */
 enum {
     PREPAY_OK = 0,
     PREPAY_NO_ACCOUNT = 1,       /* terms outside their limits, or no account */
     PREPAY_BAD_DAY = 2,          /* before the last accepted event's day, or past day 399 */
-    PREPAY_BAD_FIELD = 3,        /* sort, amount, Wh, kind or mark days outside their limits; a month without days */
+    PREPAY_BAD_FIELD = 3,        /* sort, amount, price, Wh, kind or mark days outside their limits; a month without days */
     PREPAY_EVENTS_FULL = 4,      /* 4,096 events accepted */
     PREPAY_PAYMENTS_FULL = 5,    /* 128 payments accepted */
     PREPAY_BAD_PAYMENT = 6,      /* no payment of that number, or reversed already */
@@ -61,6 +62,7 @@ enum {
     PREPAY_DAY_BARRED = 14,
     PREPAY_BAD_TEXT = 15,        /* text malformed, or longer than 65,536 bytes */
     PREPAY_SHORT_BUFFER = 16,    /* shorter than the row */
+    PREPAY_PRICES_FULL = 17,     /* 16 days after day 0 have a price, and this day is not among them */
     PREPAY_END = 255             /* prepay_read_event: the text has no further event */
 };
 
@@ -76,7 +78,8 @@ enum {
     PREPAY_MARK = 8,
     PREPAY_PLAN = 9,
     PREPAY_DISCONNECT = 10,
-    PREPAY_CONNECT = 11
+    PREPAY_CONNECT = 11,
+    PREPAY_PRICE = 12
 };
 
 /* The kinds of charges, of marks and of plans. */
@@ -96,7 +99,7 @@ enum {
 /* The opening terms. */
 typedef struct {
     uint32_t year, month, day; /* the opening date, 2000-01-01 to 2099-12-31 */
-    uint32_t price;            /* 1 to 99,999 hundredths of a cent per kWh */
+    uint32_t price;            /* the opening price, 1 to 99,999 hundredths of a cent per kWh */
     uint32_t connect;          /* connection balance, 0 to 7,500 */
     uint32_t cutoff;           /* disconnection balance, 0 to 1,000 and at most connect */
     uint32_t share;            /* per cent of a payment that goes to a deferred payment plan, 0 to 50 */
@@ -106,7 +109,7 @@ typedef struct {
 typedef struct {
     uint32_t sort;
     uint32_t day;      /* 0 to 399, not before the last accepted event's */
-    uint32_t amount;   /* pay, credit, charge: 1 to 10,000,000 */
+    uint32_t amount;   /* pay, credit, charge: 1 to 10,000,000; price: the price, 1 to 99,999, in force from `day` on */
     uint32_t number;   /* reverse: the payment's number, the value that its pay was answered */
     uint32_t kind;     /* charge 1 to 5, mark 1 to 3, plan 1 or 2 */
     uint32_t usage;    /* estimate, read: the usage day, before `day` */
@@ -114,15 +117,16 @@ typedef struct {
     uint32_t from, to; /* mark: its first and last day, day <= from <= to <= 399 */
 } prepay_event;
 
-/* One account: 8,328 bytes, aligned to 8. Its numbers are the library's own; a copy of the bytes is a copy of the account, for
+/* One account: 8,464 bytes, aligned to 8. Its numbers are the library's own; a copy of the bytes is a copy of the account, for
  * machines of the same byte order.
  * Any numbers are read as an account: whatever they are, no call reads or writes elsewhere, wraps a sum or runs without end. They are no
  * account, and every event and every month gets 1, where the terms are outside their limits (as in memory of zeros), `count` is above 128,
  * or one of credit, debit, plan and standing is above 2^60; a charge that nothing else refuses gets 1 where the sum that it adds to is above
- * 2^60. No account that these calls alone have written is such.
- * An accepted event writes the totals, and at most one payment, one usage day, one sum of charges, one byte of `warned`, and in `marks` the
- * days of its mark; as these calls write them: yes as 1, no as 0, a blank day as 0, 0, 0. The payment `number` modulo 128 and the usage day
- * `usage` modulo 400 may be written so, read as before, even where the event's sort names none. All other numbers stay. */
+ * 2^60, and an estimate or a read that 2, 3 or 4 does not refuse gets 1 where the price of its usage day is above 99,999. No account that
+ * these calls alone have written is such.
+ * An accepted event writes the totals, and at most one payment, one usage day, one sum of charges, one price, one byte of `warned`, and in
+ * `marks` the days of its mark; as these calls write them: yes as 1, no as 0, a blank day as 0, 0, 0. The payment `number` modulo 128 and the
+ * usage day `usage` modulo 400 may be written so, read as before, even where the event's sort names none. All other numbers stay. */
 typedef struct {
     uint64_t credit, debit;           /* the balance is credit less debit; both only grow */
     uint64_t plan, standing;          /* the unpaid plan; the cost of the standing estimates */
@@ -137,10 +141,18 @@ typedef struct {
     uint32_t day, amount, part, reversed; /* reversed: 1 is yes, any other number no */
 } prepay_payment;
 
+/* A price in force from a day on. The first of an account's cells is day 0's, the next ones are those of later days, in order; a cell that is
+ * not taken has day 400. The price of usage day u is that of the last cell before the first whose day is above u, and the opening price where
+ * that is the first cell. A price posted on day x goes to the first cell whose day is not below x; where there is none it gets 17. */
+typedef struct {
+    uint32_t day, price;
+} prepay_price;
+
 typedef struct {
     prepay_totals totals;
     uint64_t charges[PREPAY_MONTHS * PREPAY_CHARGE_KINDS]; /* month m's of kind k are summed at 5 m + k - 1 */
     prepay_terms terms;
+    prepay_price prices[PREPAY_PRICE_CELLS];
     prepay_day days[PREPAY_DAYS];
     prepay_payment payments[PREPAY_MAX_PAYMENTS];
     uint32_t spare;              /* 0 */
@@ -148,7 +160,7 @@ typedef struct {
     uint8_t warned[PREPAY_DAYS]; /* 1: a warning was accepted on the day; any other number: none */
 } prepay_account;
 
-#define PREPAY_ACCOUNT_SIZE 8328
+#define PREPAY_ACCOUNT_SIZE 8464
 #define PREPAY_ACCOUNT_ALIGN 8
 
 /* What an event is answered: its code; and, where that is 0, the payment's number (pay), the usage day's cost (estimate, read) or the plan's
@@ -215,8 +227,8 @@ uint32_t prepay_version(void);
 
 /* ---- one account */
 
-/* Fills `account` with a fresh account, whatever stood there (every number 0 but the terms), and answers 0; or answers 1 and leaves every
- * byte as it was where the terms are outside their limits. */
+/* Fills `account` with a fresh account, whatever stood there (every number 0 but the terms, the opening price in the first cell of the
+ * prices, and day 400 in the others), and answers 0; or answers 1 and leaves every byte as it was where the terms are outside their limits. */
 uint8_t prepay_open(prepay_account *account, const prepay_terms *terms);
 
 /* Posts one event. A refused event changes no byte of the account. */

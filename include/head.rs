@@ -25,6 +25,7 @@ pub const DAYS: usize = defined("#define PREPAY_DAYS ");
 pub const MONTHS: usize = defined("#define PREPAY_MONTHS ");
 pub const CHARGE_KINDS: usize = defined("#define PREPAY_CHARGE_KINDS ");
 pub const MAX_PAYMENTS: usize = defined("#define PREPAY_MAX_PAYMENTS ");
+pub const PRICE_CELLS: usize = defined("#define PREPAY_PRICE_CELLS ");
 pub const MAX_TEXT: usize = defined("#define PREPAY_MAX_TEXT ");
 pub const TRANSCRIPT_ROOM: usize = defined("#define PREPAY_TRANSCRIPT_ROOM ");
 pub const STATEMENT_ROOM: usize = defined("#define PREPAY_STATEMENT_ROOM ");
@@ -89,11 +90,19 @@ pub struct Payment {
 }
 
 #[repr(C)]
+#[derive(Clone, Copy, Debug, Default, PartialEq, Eq)]
+pub struct Price {
+    pub day: u32,
+    pub price: u32,
+}
+
+#[repr(C)]
 #[derive(Clone, Copy, Debug, PartialEq, Eq)]
 pub struct Account {
     pub totals: Totals,
     pub charges: [u64; MONTHS * CHARGE_KINDS],
     pub terms: Terms,
+    pub prices: [Price; PRICE_CELLS],
     pub days: [Day; DAYS],
     pub payments: [Payment; MAX_PAYMENTS],
     pub spare: u32,
