@@ -1,6 +1,6 @@
 /* stack ROW TEXT: the deepest stack of each call of libhead.a, the room for its answer included, on good numbers and on damaged ones. Each
  * call runs on a stack of its own (makecontext), filled with a pattern before; the deepest word that changed tells. ROW: events as numbers,
- * from `measure row`; TEXT: an event text. */
+ * from `measure row`; TEXT: an event text. Neither has a price: every 64th event of the row becomes one, and a short text has one. */
 #define _GNU_SOURCE
 #include "head.h"
 #include <stdio.h>
@@ -19,6 +19,7 @@ static prepay_account account, other;
 static prepay_event row[PREPAY_MAX_EVENTS], event;
 static prepay_terms terms = {2024, 1, 1, 1250, 5000, 1000, 50}, terms_read;
 static prepay_reader reader;
+static const char priced[] = "open=2024-01-01\nprice=1250\nconnect=5000\ncutoff=1000\nshare=50\nday=0\ndo=price\nprice=2500\n";
 static size_t events, text_len;
 static uint32_t month;
 static uint8_t codes[PREPAY_MAX_EVENTS], text[PREPAY_MAX_TEXT + 1], out[PREPAY_TRANSCRIPT_ROOM];
@@ -109,6 +110,13 @@ int main(int argc, char **argv) {
         if (fscanf(f, "%u %u %u %u %u %u %u %u %u", &e->sort, &e->day, &e->amount, &e->number, &e->kind, &e->usage, &e->wh, &e->from, &e->to) != 9)
             break;
     fclose(f);
+    for (uint32_t i = 0; i < events; i += 64) {
+        row[i].sort = PREPAY_PRICE;
+        row[i].amount = 1 + 20 * i;
+    }
+    text_len = sizeof priced - 1;
+    memcpy(text, priced, text_len);
+    measure_text(0);
     f = fopen(argv[2], "r");
     if (!f) return 2;
     text_len = fread(text, 1, sizeof text, f);
@@ -126,7 +134,8 @@ int main(int argc, char **argv) {
     }
     measure_text(0);
 
-    /* Damaged: random numbers; random numbers but for the terms, the payments' count and the totals; some numbers; some bits. */
+    /* Damaged: random numbers; random numbers but for the terms, the payments' count, the totals and the prices; some numbers; some bits.
+     * The prices of all but the first: days in order, the last cells free or not, but for some; prices at their limit and above it. */
     srandom(1);
     for (int i = 0; i < DAMAGED; i++) {
         prepay_account damaged = after;
@@ -138,6 +147,9 @@ int main(int argc, char **argv) {
             damaged.terms = after.terms;
             damaged.totals = after.totals;
             damaged.totals.events = damaged.totals.last = 0; /* so that some are accepted */
+            uint32_t step = 1 + (uint32_t)random() % 48;
+            for (uint32_t k = 0; k < PREPAY_PRICE_CELLS; k++)
+                damaged.prices[k] = (prepay_price){random() % 8 ? step * k : (uint32_t)random(), 99990 + (uint32_t)random() % 12};
         }
         account = damaged;
         measure_readings(1);

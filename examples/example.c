@@ -1,6 +1,7 @@
 /* The account of a prepay meter head from C, by each call of include/head.h.
  *
- * `example` posts document 01's worked example singly and in rows and prints a month's figures; run.sh holds it to example.out.
+ * `example` posts document 01's worked example singly and in rows, prints a month's figures and posts a new price; run.sh holds it to
+ * example.out.
  * `example FILE` reads and posts the event text of a file event by event, as firmware does, and prints what the programs `prepay` and
  * `summary` print for it; then the same by the calls that print a whole text. run.sh holds it to the programs.
  */
@@ -11,8 +12,8 @@
 #include "head.h"
 
 /* What this program was written for, and its memory laid out for. */
-_Static_assert(PREPAY_VERSION == 2, "another head.h");
-_Static_assert(sizeof(prepay_account) == PREPAY_ACCOUNT_SIZE && PREPAY_ACCOUNT_SIZE == 8328, "8,328 bytes are kept for the account");
+_Static_assert(PREPAY_VERSION == 3, "another head.h");
+_Static_assert(sizeof(prepay_account) == PREPAY_ACCOUNT_SIZE && PREPAY_ACCOUNT_SIZE == 8464, "8,464 bytes are kept for the account");
 _Static_assert(_Alignof(prepay_account) == PREPAY_ACCOUNT_ALIGN && PREPAY_ACCOUNT_ALIGN == 8, "they are aligned to 8");
 
 /* The account, in the caller's memory. */
@@ -37,6 +38,13 @@ static const prepay_event events[] = {
     {.sort = PREPAY_CONNECT, .day = 5}, /* PREPAY_BAD_BALANCE: below the connection balance */
 };
 enum { EVENTS = sizeof events / sizeof events[0] };
+
+/* A price for usage days from day 5 on (document 02, T-01), and a read before and after. */
+static const prepay_event moved[] = {
+    {.sort = PREPAY_PRICE, .day = 5, .amount = 2500}, /* 25 cents per kWh */
+    {.sort = PREPAY_READ, .day = 6, .usage = 4, .wh = 30000}, /* at the opening price */
+    {.sort = PREPAY_READ, .day = 6, .usage = 5, .wh = 30000},
+};
 
 static int wrong;
 
@@ -188,6 +196,10 @@ int main(int argc, char **argv) {
     rows(&singly, codes);
     puts("# month 0");
     print_month(0);
+    puts("# a new price");
+    for (unsigned i = 0; i < sizeof moved / sizeof moved[0]; i++)
+        print_answer(EVENTS + i + 1, prepay_post(&account, &moved[i]));
+    print_last();
     puts(wrong ? "# WRONG" : "# as it should be");
     return wrong;
 }

@@ -45,6 +45,7 @@ static const prepay_event events[] = {
     {.sort = PREPAY_PLAN, .day = 1, .kind = PREPAY_PLAN_KIND_OFFERED}, /* the balance was -6006: 11006 are deferred */
     {.sort = PREPAY_PAY, .day = 2, .amount = 3001},
     {.sort = PREPAY_PAY, .day = 2, .amount = 501},
+    {.sort = PREPAY_PRICE, .day = 2, .amount = 2503},
     {.sort = PREPAY_PAY, .day = 3, .amount = 701},
     {.sort = PREPAY_PAY, .day = 3, .amount = 90011},
     {.sort = PREPAY_REVERSE, .day = 3, .number = 2},
@@ -62,7 +63,7 @@ static const prepay_event events[] = {
     {.sort = PREPAY_DISCONNECT, .day = 8}, /* 12 */
     {.sort = PREPAY_CHARGE, .day = 40, .kind = PREPAY_CHARGE_DELIVERY, .amount = 61}, /* month 1, without energy */
 };
-enum { EVENTS = sizeof events / sizeof events[0], REFUSED = 20 };
+enum { EVENTS = sizeof events / sizeof events[0], REFUSED = 21 };
 
 /* The event with a number in the fields that its sort does not name too, whose value changes no answer. */
 static prepay_event posted(size_t i) {
@@ -81,7 +82,7 @@ static size_t text_len, terms_len;
 
 static void write_text(void) {
     static const char *const words[] = {"",     "pay",  "reverse", "credit", "charge",     "estimate",
-                                        "read", "warn", "mark",    "plan",   "disconnect", "connect"};
+                                        "read", "warn", "mark",    "plan",   "disconnect", "connect",  "price"};
 #define PUT(...) text_len += (size_t)snprintf(text + text_len, sizeof text - text_len, __VA_ARGS__)
     PUT("open=%04u-%02u-%02u\nprice=%u\nconnect=%u\ncutoff=%u\nshare=%u\n", terms.year, terms.month, terms.day, terms.price, terms.connect,
         terms.cutoff, terms.share);
@@ -90,7 +91,7 @@ static void write_text(void) {
         PUT("day=%u\ndo=%s\n", e->day, words[e->sort]);
         /* In the order of the text's keys. */
         if (e->kind) PUT("kind=%u\n", e->kind);
-        if (e->amount) PUT("amount=%u\n", e->amount);
+        if (e->amount) PUT("%s=%u\n", e->sort == PREPAY_PRICE ? "price" : "amount", e->amount);
         if (e->number) PUT("number=%u\n", e->number);
         if (e->usage) PUT("usage=%u\nwh=%u\n", e->usage, e->wh);
         if (e->to) PUT("from=%u\nto=%u\n", e->from, e->to);
@@ -135,7 +136,10 @@ static void opening(void) {
     prepay_account fresh;
     memset(&fresh, 0, sizeof fresh);
     fresh.terms = terms;
-    expect(memcmp(&one.account, &fresh, sizeof fresh) == 0, "a fresh account is its terms, and 0 in every other field");
+    fresh.prices[0].price = terms.price;
+    for (size_t i = 1; i < PREPAY_PRICE_CELLS; i++)
+        fresh.prices[i].day = 400;
+    expect(memcmp(&one.account, &fresh, sizeof fresh) == 0, "a fresh account is its terms, the opening price, and 0 in every other field");
 }
 
 /* The number after a key in a line, held to a field. */
@@ -218,7 +222,10 @@ static void account_fields(void) {
     expect((int64_t)(t->credit - t->debit) == now.balance && t->credit > t->debit && now.balance > 0, "totals: credit, debit");
     expect(a->charges[0] == 12007 && a->charges[1] == 23 && a->charges[4] == 59 && a->charges[5] == 61, "charges, by month and kind");
     expect(memcmp(&a->terms, &terms, sizeof terms) == 0, "terms");
-    static const prepay_day metered = {.state = 2, .wh = 32000, .cost = 400}, estimated = {.state = 1, .wh = 31111, .cost = 389};
+    static const prepay_price prices[] = {{.day = 0, .price = 1250}, {.day = 2, .price = 2503}, {.day = 400, .price = 0}};
+    expect(memcmp(a->prices, prices, sizeof prices) == 0 && memcmp(a->prices + 2, a->prices + 3, (PREPAY_PRICE_CELLS - 3) * sizeof *prices) == 0,
+           "prices");
+    static const prepay_day metered = {.state = 2, .wh = 32000, .cost = 400}, estimated = {.state = 1, .wh = 31111, .cost = 779};
     expect(memcmp(&a->days[1], &metered, sizeof metered) == 0 && memcmp(&a->days[2], &estimated, sizeof estimated) == 0, "days");
     static const prepay_payment reversed = {.day = 3, .amount = 701, .part = 343, .reversed = 1};
     expect(memcmp(&a->payments[3], &reversed, sizeof reversed) == 0, "payments");
@@ -284,7 +291,7 @@ static void names(void) {
         uint64_t code;
     } posts[] = {
         {{.sort = PREPAY_PAY, .day = PREPAY_DAYS, .amount = 1}, PREPAY_BAD_DAY},
-        {{.sort = PREPAY_CONNECT + 1}, PREPAY_BAD_FIELD},
+        {{.sort = PREPAY_PRICE + 1}, PREPAY_BAD_FIELD},
         {{.sort = PREPAY_REVERSE, .number = 0}, PREPAY_BAD_PAYMENT},
         {{.sort = PREPAY_ESTIMATE, .usage = 0}, PREPAY_USAGE_NOT_PAST},
         {{.sort = PREPAY_ESTIMATE, .day = 1, .usage = 0}, PREPAY_OK},
@@ -307,6 +314,9 @@ static void names(void) {
         {{.sort = PREPAY_WARN, .day = 1}, PREPAY_OK},
         {{.sort = PREPAY_DISCONNECT, .day = 2}, PREPAY_DAY_BARRED},
     };
+    expect(PREPAY_VERSION == 3 && prepay_version() == PREPAY_VERSION, "the version");
+    expect(PREPAY_ACCOUNT_SIZE == 8464 && sizeof(prepay_account) == PREPAY_ACCOUNT_SIZE, "the size of an account");
+    expect(PREPAY_PRICE_CELLS == 1 + 16, "document 02: day 0's price, and those of sixteen days after it");
     prepay_account account;
     memset(&account, 0, sizeof account);
     expect(prepay_post(&account, &posts[0].event).code == PREPAY_NO_ACCOUNT, "zeros are no account");
@@ -337,6 +347,58 @@ static void names(void) {
            "document 01: 1 extreme weather emergency, 2 payment means down, 3 confirmed assistance pledge");
 }
 
+/* Document 02, T-01: a price's limits, its cell, the usage days that it counts for, and how many days may have one. */
+static void prices(void) {
+    static const struct {
+        prepay_event event;
+        uint64_t code, value;
+    } posts[] = {
+        {{.sort = PREPAY_PRICE, .day = 5, .amount = 0}, PREPAY_BAD_FIELD, 0},
+        {{.sort = PREPAY_PRICE, .day = 5, .amount = 100000}, PREPAY_BAD_FIELD, 0},
+        {{.sort = PREPAY_PRICE, .day = 5, .amount = 2500}, PREPAY_OK, 0},
+        {{.sort = PREPAY_ESTIMATE, .day = 6, .usage = 4, .wh = 30000}, PREPAY_OK, 375},
+        {{.sort = PREPAY_ESTIMATE, .day = 6, .usage = 5, .wh = 30000}, PREPAY_OK, 750},
+        {{.sort = PREPAY_READ, .day = 6, .usage = 4, .wh = 30000}, PREPAY_OK, 375},
+        {{.sort = PREPAY_READ, .day = 6, .usage = 5, .wh = 30000}, PREPAY_OK, 750},
+    };
+    enum { POSTS = sizeof posts / sizeof posts[0], LATER = PREPAY_PRICE_CELLS - 1 };
+    prepay_account account, before;
+    expect(prepay_open(&account, &terms) == PREPAY_OK, "prepay_open answers 0");
+    for (size_t i = 0; i < POSTS; i++) {
+        prepay_answer answer = prepay_post(&account, &posts[i].event);
+        if (answer.code != posts[i].code || answer.value != posts[i].value) {
+            printf("WRONG: the answer to event %zu of the prices\n", i);
+            wrong = 1;
+        }
+    }
+    /* Day 5, then days 6 to 20: the sixteen later days. */
+    prepay_price cells[] = {{.day = 0, .price = 1250}, {.day = 5, .price = 2500}, [PREPAY_PRICE_CELLS - 1] = {0}};
+    for (uint32_t i = 2; i <= LATER; i++) {
+        const prepay_event next = {.sort = PREPAY_PRICE, .day = 4 + i, .amount = 2500 + i};
+        expect(prepay_post(&account, &next).code == PREPAY_OK, "prices of sixteen later days are accepted");
+        cells[i] = (prepay_price){.day = next.day, .price = next.amount};
+    }
+    expect(sizeof account.prices == sizeof cells && memcmp(account.prices, cells, sizeof cells) == 0, "the cells of the prices");
+    const prepay_event other = {.sort = PREPAY_PRICE, .day = 21, .amount = 1}, again = {.sort = PREPAY_PRICE, .day = 20, .amount = 99999};
+    before = account;
+    expect(prepay_post(&account, &other).code == PREPAY_PRICES_FULL, "a seventeenth is not");
+    expect(memcmp(&account, &before, sizeof account) == 0, "and changes no byte");
+    expect(prepay_post(&account, &again).code == PREPAY_OK, "the sixteenth again is");
+    cells[LATER].price = again.amount;
+    expect(memcmp(account.prices, cells, sizeof cells) == 0, "and replaces its first price");
+
+    /* Day 0: in the place of the opening price. */
+    expect(prepay_open(&account, &terms) == PREPAY_OK, "prepay_open answers 0");
+    before = account;
+    for (uint32_t amount = 1; amount <= 2; amount++) {
+        const prepay_event opening_day = {.sort = PREPAY_PRICE, .day = 0, .amount = amount};
+        expect(prepay_post(&account, &opening_day).code == PREPAY_OK, "a price on day 0 is accepted");
+        before.prices[0].price = amount;
+        before.totals.events++;
+        expect(memcmp(&account, &before, sizeof account) == 0, "it writes its cell and counts as an event");
+    }
+}
+
 int main(int argc, char **argv) {
     if (argc == 2 && strcmp(argv[1], "print") == 0) {
         print();
@@ -349,6 +411,7 @@ int main(int argc, char **argv) {
     rows();
     reading();
     names();
+    prices();
     puts(wrong ? "layout: WRONG" : "layout: as head.h has it");
     return wrong;
 }

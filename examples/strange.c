@@ -88,9 +88,33 @@ static prepay_event any_event(uint32_t sort) {
     return e;
 }
 
+/* The price of a usage day, as head.h has it. */
+static uint32_t price_of(const prepay_account *of, uint32_t usage) {
+    uint32_t above = 0;
+    while (above < PREPAY_PRICE_CELLS && of->prices[above].day <= usage)
+        above++;
+    return above ? of->prices[above - 1].price : of->terms.price;
+}
+
+/* The cell that a price posted on a day goes to; PREPAY_PRICE_CELLS where there is none. */
+static uint32_t cell_of(const prepay_account *of, uint32_t day) {
+    uint32_t cell = 0;
+    while (cell < PREPAY_PRICE_CELLS && of->prices[cell].day < day)
+        cell++;
+    return cell;
+}
+
 /* Whether an event may be answered so. */
-static int may_be(uint64_t code, int account, uint32_t sort) {
-    return account ? code <= PREPAY_DAY_BARRED && (code != PREPAY_NO_ACCOUNT || sort == PREPAY_CHARGE) : code == PREPAY_NO_ACCOUNT;
+static int may_be(uint64_t code, int account, const prepay_account *was, const prepay_event *e) {
+    if (!account)
+        return code == PREPAY_NO_ACCOUNT;
+    if (code >= PREPAY_BAD_DAY && code <= PREPAY_EVENTS_FULL)
+        return 1;
+    if (e->sort == PREPAY_PRICE)
+        return code == (cell_of(was, e->day) < PREPAY_PRICE_CELLS ? PREPAY_OK : PREPAY_PRICES_FULL);
+    if ((e->sort == PREPAY_ESTIMATE || e->sort == PREPAY_READ) && price_of(was, e->usage) > 99999)
+        return code == PREPAY_NO_ACCOUNT;
+    return code <= PREPAY_DAY_BARRED && (code != PREPAY_NO_ACCOUNT || e->sort == PREPAY_CHARGE);
 }
 
 /* Reads the account and posts to it. */
@@ -116,14 +140,20 @@ static void feed(void) {
     }
     expect(memcmp(a, &was, sizeof was) == 0, "reading leaves the numbers as they are");
 
-    for (uint32_t sort = 0; sort <= 13; sort++) {
-        prepay_event e = any_event(sort <= 12 ? sort : (uint32_t)next());
+    for (uint32_t sort = 0; sort <= 14; sort++) {
+        prepay_event e = any_event(sort <= 13 ? sort : (uint32_t)next());
         account = is_account();
         prepay_answer answer = prepay_post(a, &e);
-        expect(may_be(answer.code, account, e.sort), "an event's code");
+        expect(may_be(answer.code, account, &was, &e), "an event's code");
         expect(answer.code == 0 || answer.value == 0, "a refusal has the value 0");
         expect(answer.code == 0 || memcmp(a, &was, sizeof was) == 0, "a refused event changes no byte");
         *(answer.code == 0 ? &accepted : &refused) += 1;
+        if (answer.code == 0 && (e.sort == PREPAY_ESTIMATE || e.sort == PREPAY_READ))
+            expect(answer.value == ((uint64_t)e.wh * price_of(&was, e.usage) + 50000) / 100000, "a cost is at the price of its usage day");
+        uint32_t cell = cell_of(&was, e.day);
+        if (answer.code == 0 && e.sort == PREPAY_PRICE && cell < PREPAY_PRICE_CELLS)
+            was.prices[cell] = (prepay_price){e.day, e.amount};
+        expect(memcmp(a->prices, was.prices, sizeof was.prices) == 0, "an accepted price writes its cell, and no other event one");
         was = *a;
     }
 
@@ -132,7 +162,7 @@ static void feed(void) {
     prepay_event *from = row + (MOST - count);
     uint8_t *to = codes + (MOST - count);
     for (size_t i = 0; i < count; i++)
-        from[i] = any_event(below(14));
+        from[i] = any_event(below(15));
     memset(codes, 0xEE, MOST);
     if (count > 0)
         expect(prepay_row(a, from, count, to, below((uint32_t)count)) == PREPAY_SHORT_BUFFER, "a short buffer is 16");
@@ -162,6 +192,7 @@ static void good(void) {
         {.sort = PREPAY_PAY, .day = 1, .amount = 3000},
         {.sort = PREPAY_REVERSE, .day = 1, .number = 1},
         {.sort = PREPAY_PAY, .day = 2, .amount = 1000},
+        {.sort = PREPAY_PRICE, .day = 2, .amount = 2500},
         {.sort = PREPAY_ESTIMATE, .day = 3, .usage = 0, .wh = 30000},
         {.sort = PREPAY_ESTIMATE, .day = 3, .usage = 1, .wh = 31000},
         {.sort = PREPAY_READ, .day = 3, .usage = 1, .wh = 32000},
@@ -212,7 +243,16 @@ static void strange_accounts(void) {
         fill((uint8_t *)a + (i % 3 == 0 ? 0 : from), (i % 3 == 1 ? sizeof *a : to) - (i % 3 == 0 ? 0 : from));
         feed();
     }
-    /* A good account with one number replaced, by width in turn, totals and terms more; wide ones at 2^60 and above it. */
+    /* A good account with odd prices: days in order or not, some cells or all, prices at their limit and above it. */
+    for (int i = 0; i < 1000; i++) {
+        *a = base;
+        uint32_t step = 1 + below(24);
+        for (uint32_t k = 0; k < PREPAY_PRICE_CELLS; k++)
+            if (i % 2 || below(2))
+                a->prices[k] = (prepay_price){i % 4 < 2 ? step * k + below(step) : any_number(), below(2) ? 99999 + below(2) : any_number()};
+        feed();
+    }
+    /* A good account with one number replaced, by width in turn, totals, terms and prices more; wide ones at 2^60 and above it. */
     for (int i = 0; i < 3000; i++) {
         *a = base;
         uint8_t *bytes = (uint8_t *)a;
@@ -222,7 +262,7 @@ static void strange_accounts(void) {
         if (i % 3 == 0)
             memcpy(bytes + 8 * below(below(2) ? 4 : WIDE), &wide, sizeof wide);
         else if (i % 3 == 1)
-            memcpy(bytes + (below(4) ? offsetof(prepay_account, terms) + 4 * below(below(2) ? 40 : NARROW) : 32 + 4 * below(4)), &narrow,
+            memcpy(bytes + (below(4) ? offsetof(prepay_account, terms) + 4 * below(below(2) ? 80 : NARROW) : 32 + 4 * below(4)), &narrow,
                    sizeof narrow);
         else
             (below(2) ? a->marks : a->warned)[below(PREPAY_DAYS)] = (uint8_t)next();
@@ -241,7 +281,8 @@ static void strange_accounts(void) {
 
 static void strange_readers(prepay_reader *reader, prepay_terms *read_terms, prepay_event *event) {
     static const char base[] = "open=2024-01-01\nprice=1250\nconnect=5000\ncutoff=1000\nshare=50\nday=0\ndo=pay\namount=6000\n"
-                               "day=3\ndo=mark\nkind=1\nfrom=4\nto=5\nday=4\ndo=estimate\nusage=1\nwh=30000\nday=4\ndo=warn\n";
+                               "day=3\ndo=mark\nkind=1\nfrom=4\nto=5\nday=4\ndo=estimate\nusage=1\nwh=30000\n"
+                               "day=4\ndo=price\nprice=2500\nday=4\ndo=warn\n";
     enum { LENGTH = sizeof base - 1 };
     uint8_t *text = fenced(LENGTH, 1);
     for (int i = 0; i < 3000; i++) {
@@ -257,8 +298,8 @@ static void strange_readers(prepay_reader *reader, prepay_terms *read_terms, pre
         expect(reader->code == code && (code == PREPAY_OK || (code == PREPAY_BAD_TEXT && reader->place == 0)), "the reader after the terms");
         expect(code == PREPAY_OK || memcmp(read_terms, &terms_were, sizeof terms_were) == 0, "malformed terms are left as they were");
         /* To its end; then from any place with any code. */
-        for (int step = 0; step < 12; step++) {
-            if (step >= 6)
+        for (int step = 0; step < 13; step++) {
+            if (step >= 7)
                 *reader = (prepay_reader){below(3) ? below(LENGTH + 3) : any_number(), below(2) ? 0 : any_number()};
             const prepay_reader was = *reader;
             fill(event, sizeof *event);
@@ -269,7 +310,7 @@ static void strange_readers(prepay_reader *reader, prepay_terms *read_terms, pre
                 expect(code == (was.code == PREPAY_END ? PREPAY_END : PREPAY_BAD_TEXT) && reader->place == was.place && reader->code == was.code,
                        "a reader that holds a code answers the end or 15, and stays");
             else if (code == PREPAY_OK)
-                expect(was.place < reader->place && reader->place <= length && reader->code == 0 && event->sort >= 1 && event->sort <= 11,
+                expect(was.place < reader->place && reader->place <= length && reader->code == 0 && event->sort >= 1 && event->sort <= 12,
                        "an event was read");
             else
                 expect(code == (was.place == length ? PREPAY_END : PREPAY_BAD_TEXT) && reader->place == was.place && reader->code == code,
