@@ -111,6 +111,63 @@ def broken_at(event, line, balance, settled, estimates=0):
 IN_TERMS = REFUSED_TERMS % 15, b"line 1: the terms break the form\n"
 TOO_LONG = REFUSED_TERMS % 15, b"the text is longer than 65536 bytes\n"
 
+# usage day 4 costs the opening price, also read after the price moved on day 5, and usage day 5 the new one
+PRICED = TERMS + b"""day=0
+do=pay
+amount=6000
+day=5
+do=price
+price=2500
+day=6
+do=estimate
+usage=4
+wh=30000
+day=6
+do=read
+usage=5
+wh=30000
+day=6
+do=price
+price=0
+day=6
+do=price
+price=100000
+day=7
+do=read
+usage=4
+wh=32000
+"""
+PRICED_LINES = b"""n=1 code=0 value=0 balance=6000 plan=0
+n=2 code=0 value=0 balance=6000 plan=0
+n=3 code=0 value=375 balance=5625 plan=0
+n=4 code=0 value=750 balance=4875 plan=0
+n=5 code=3 value=0 balance=4875 plan=0
+n=6 code=3 value=0 balance=4875 plan=0
+n=7 code=0 value=400 balance=4850 plan=0
+settled=4850 estimates=0
+"""
+
+# a price twice on day 0, once on days 1 to 17, of which the last is 17, and again on day 16; then a usage day's 100,000 Wh cost its price
+MOVES = [(0, 1), (0, 99999)] + [(day, 100 * day) for day in range(1, 18)] + [(16, 5000)]
+SIXTEEN = TERMS + b"".join(b"day=%d\ndo=price\nprice=%d\n" % move for move in MOVES)
+SIXTEEN += b"".join(b"day=19\ndo=read\nusage=%d\nwh=100000\n" % usage for usage in (0, 15, 16, 18))
+SIXTEEN_LINES = b"".join(b"n=%d code=%d value=0 balance=0 plan=0\n" % (n, 17 if n == 19 else 0) for n in range(1, 21))
+SIXTEEN_LINES += b"""n=21 code=0 value=99999 balance=-99999 plan=0
+n=22 code=0 value=1500 balance=-101499 plan=0
+n=23 code=0 value=5000 balance=-106499 plan=0
+n=24 code=0 value=5000 balance=-111499 plan=0
+settled=-111499 estimates=0
+"""
+
+
+def metered(count, paid, wh, cost, average):
+    """what `summary` prints where payments and reads are in month 0 alone: days 0 to 399 from 2024-01-01 end in month 13"""
+    line = b"m=%d code=%d kept_count=%d kept_sum=%d reversed_count=0 reversed_sum=0 metered_wh=%d metered_cost=%d estimated_wh=0 estimated_cost=0"
+    line += b" kind1=0 kind2=0 kind3=0 kind4=0 kind5=0 average=%d missing=%d\n"
+    later = b"".join(line % (month, 0, 0, 0, 0, 0, 0, 1) for month in range(1, 14))
+    return line % (0, 0, count, paid, wh, cost, average, 0) + later + line % (14, 3, 0, 0, 0, 0, 0, 0)
+
+
 # a text, what `prepay` prints and says of it, and the text of which `summary` prints the same months
 TEXTS = [
     ("sound", WORKED, (b"".join(WORKED_LINES), b""), WORKED),
@@ -131,6 +188,7 @@ TEXTS = [
     ("a line feed after the last event", WORKED + b"\n", broken_at(11, 34, 4900, 4900), WORKED),
     ("half an event after the last event", WORKED + b"day=6\n", broken_at(11, 34, 4900, 4900), WORKED),
     ("zero bytes after the last event", WORKED + bytes(20), broken_at(11, 34, 4900, 4900), WORKED),
+    ("a price under another key", PRICED.replace(b"\nprice=2500\n", b"\namount=2500\n"), broken_at(2, 9, 6000, 6000), b"".join(lines[:8])),
     ("65,536 bytes", LONGEST, (LONGEST_LINES, b""), TERMS + b"day=0\ndo=warn\n"),
     ("65,537 bytes", LONGEST + b"\n", TOO_LONG, None),
     ("too long by far", WORKED * 1000, TOO_LONG, None),
@@ -142,6 +200,10 @@ for title, text, (out, message), sound in TEXTS:
     expect(f"prepay, {title}", run("prepay", text), (out, message, 0))
     months = out if sound is None else run("summary", sound)[0]
     expect(f"summary, {title}", run("summary", text), (months, message, 0))
+expect("prepay, a price in mid-year", run("prepay", PRICED), (PRICED_LINES, b"", 0))
+expect("summary, a price in mid-year", run("summary", PRICED), (metered(1, 6000, 62000, 1150, 1855), b"", 0))
+expect("prepay, prices of sixteen later days", run("prepay", SIXTEEN), (SIXTEEN_LINES, b"", 0))
+expect("summary, prices of sixteen later days", run("summary", SIXTEEN), (metered(0, 0, 400000, 111499, 27875), b"", 0))
 expect("summary, its stored text", run("summary", SUMMARY_TEXT), (SUMMARY_LINES, SUMMARY_SAID, 0))
 
 # ---- streams that fail
