@@ -1,6 +1,6 @@
-//! The rules of document 01, over what they ask of an account (`Book`), and its
-//! ledger: the terms, the list L of accepted events, B, R and service. Everything
-//! else a rule asks of the ledger is read off the terms and L.
+//! The rules of document 01 and of document 02's T-01, over what they ask of an account
+//! (`Book`), and its ledger: the terms, the list L of accepted events, B, R and service.
+//! Everything else a rule asks of the ledger is read off the terms and L.
 
 use crate::calendar::{Date, SATURDAY, SUNDAY};
 
@@ -9,6 +9,11 @@ pub const MOST_EVENTS: usize = 4_096;
 pub const MOST_PAYMENTS: usize = 128;
 pub const MOST_AMOUNT: u32 = 10_000_000;
 pub const MOST_WH: u32 = 9_999_999;
+pub const MOST_PRICE: u32 = 99_999;
+/// Days after day 0 that may have a price.
+pub const MOST_PRICE_DAYS: usize = 16;
+/// The rows of the table of refusals, in the order in which the lowest is given.
+const ROWS: [u8; 15] = [1, 2, 3, 4, 5, 6, 7, 8, 9, 10, 11, 12, 13, 14, 17];
 
 #[derive(Clone, Copy, Debug, PartialEq, Eq)]
 pub struct Terms {
@@ -23,16 +28,11 @@ impl Terms {
     pub fn within_limits(&self) -> bool {
         self.open.exists()
             && (2000..=2099).contains(&self.open.year)
-            && (1..=99_999).contains(&self.price)
+            && (1..=MOST_PRICE).contains(&self.price)
             && self.connect <= 7_500
             && self.cutoff <= 1_000
             && self.cutoff <= self.connect
             && self.share <= 50
-    }
-
-    /// Cents for a usage day's Wh, each day rounded by itself.
-    pub fn cost(&self, wh: u32) -> i64 {
-        (wh as i64 * self.price as i64 + 50_000) / 100_000
     }
 
     pub fn weekday(&self, day: u32) -> u32 {
@@ -49,6 +49,11 @@ impl Terms {
     }
 }
 
+/// Cents for a usage day's Wh at a price, each day rounded by itself.
+pub fn cost_at(price: u32, wh: u32) -> i64 {
+    (wh as i64 * price as i64 + 50_000) / 100_000
+}
+
 #[derive(Clone, Copy, Debug, PartialEq, Eq)]
 pub enum Event {
     Pay { amount: u32 },
@@ -62,6 +67,7 @@ pub enum Event {
     Plan { kind: u32 },
     Disconnect,
     Connect,
+    Price { price: u32 },
 }
 use Event::*;
 
@@ -109,6 +115,10 @@ pub trait Book {
     fn parts(&self, number: u32) -> Option<(i64, i64)>;
     fn is_reversed(&self, number: u32) -> bool;
     fn usage(&self, day: u32) -> Usage;
+    /// The price in force on a usage day: that of the newest accepted price event whose day is at most `usage`, else the opening price.
+    fn price_on(&self, usage: u32) -> u32;
+    /// Sixteen different days after day 0 have a price already, and x is not among them.
+    fn has_no_price_place(&self, x: u32) -> bool;
     /// Some accepted warning was issued on a day w with 1 <= x - w <= 7.
     fn is_warned(&self, x: u32) -> bool;
     fn is_covered(&self, day: u32) -> bool;
@@ -127,6 +137,16 @@ pub trait Book {
     /// Can the event's sum be kept? Asked of an event that no row refuses.
     fn has_room(&self, _x: u32, _event: Event) -> bool {
         true
+    }
+
+    /// Is the price of the event's usage day one that a price can be? Asked of an event that rows 1 to 4 do not refuse.
+    fn has_price(&self, _event: Event) -> bool {
+        true
+    }
+
+    /// The cost of a usage day, at the price in force on it.
+    fn cost(&self, usage: u32, wh: u32) -> i64 {
+        cost_at(self.price_on(usage), wh)
     }
 
     fn is_barred(&self, day: u32) -> bool {
@@ -165,13 +185,19 @@ pub trait Book {
             (12, Connect) => self.balance() < self.terms().connect as i64,
             (13, Disconnect) => !self.is_warned(x),
             (14, Disconnect) => self.is_barred(x),
+            (17, Price { .. }) => self.has_no_price_place(x),
             _ => false,
         }
     }
 
-    /// The lowest row that applies; else 1 where the event's sum cannot be kept; else 0.
+    /// The lowest row that applies; but 1 where the event's usage day has no good price, after row 4, or its sum cannot be kept, after all.
     fn refusal(&self, x: u32, event: Event) -> u8 {
-        (1..=14).find(|&row| self.row_applies(row, x, event)).unwrap_or_else(|| !self.has_room(x, event) as u8)
+        match ROWS.into_iter().find(|&row| self.row_applies(row, x, event)) {
+            Some(row @ 1..=4) => row,
+            _ if !self.has_price(event) => 1,
+            Some(row) => row,
+            None => !self.has_room(x, event) as u8,
+        }
     }
 
     /// The ledger's step.
@@ -199,15 +225,15 @@ pub trait Book {
             }
             Credit { amount } => balance += amount as i64,
             Charge { amount, .. } => balance -= amount as i64,
-            Estimate { wh, .. } => {
-                value = self.terms().cost(wh);
+            Estimate { usage, wh } => {
+                value = self.cost(usage, wh);
                 balance -= value;
             }
             Read { usage, wh } => {
                 if let Usage::Estimated { cost, .. } = self.usage(usage) {
                     balance += cost;
                 }
-                value = self.terms().cost(wh);
+                value = self.cost(usage, wh);
                 balance -= value;
             }
             Warn => {}
@@ -219,6 +245,7 @@ pub trait Book {
             }
             Disconnect => service = false,
             Connect => service = true,
+            Price { .. } => {}
         }
         self.enter(entry, balance, plan, service);
         Answer { code: 0, value }
@@ -251,6 +278,13 @@ impl Ledger {
         self.payments().nth(number as usize)
     }
 
+    /// The days after day 0 that have a price, in order.
+    pub fn price_days(&self) -> Vec<u32> {
+        let mut days: Vec<u32> = self.list.iter().filter(|e| matches!(e.event, Price { .. }) && e.day > 0).map(|e| e.day).collect();
+        days.dedup();
+        days
+    }
+
     /// Payments without a reversal, plus credits, less charges, less reads.
     pub fn settled(&self) -> i64 {
         let mut sum = 0;
@@ -265,7 +299,7 @@ impl Ledger {
                 }
                 Credit { amount } => sum += amount as i64,
                 Charge { amount, .. } => sum -= amount as i64,
-                Read { wh, .. } => sum -= self.terms.cost(wh),
+                Read { usage, wh } => sum -= self.cost(usage, wh),
                 _ => {}
             }
         }
@@ -278,7 +312,7 @@ impl Ledger {
         self.list
             .iter()
             .map(|e| match e.event {
-                Estimate { usage, wh } if !has_read(usage) => self.terms.cost(wh),
+                Estimate { usage, wh } if !has_read(usage) => self.cost(usage, wh),
                 _ => 0,
             })
             .sum()
@@ -328,15 +362,32 @@ impl Book for Ledger {
         for e in &self.list {
             match e.event {
                 Read { usage, wh } if usage == day => {
-                    return Usage::Metered { wh, cost: self.terms.cost(wh) }
+                    return Usage::Metered { wh, cost: self.cost(day, wh) }
                 }
                 Estimate { usage, wh } if usage == day => {
-                    found = Usage::Estimated { wh, cost: self.terms.cost(wh) }
+                    found = Usage::Estimated { wh, cost: self.cost(day, wh) }
                 }
                 _ => {}
             }
         }
         found
+    }
+
+    fn price_on(&self, usage: u32) -> u32 {
+        let mut price = self.terms.price;
+        for e in &self.list {
+            if let Price { price: new } = e.event {
+                if e.day <= usage {
+                    price = new;
+                }
+            }
+        }
+        price
+    }
+
+    fn has_no_price_place(&self, x: u32) -> bool {
+        let days = self.price_days();
+        days.len() >= MOST_PRICE_DAYS && !days.contains(&x)
     }
 
     fn is_warned(&self, x: u32) -> bool {
@@ -386,6 +437,7 @@ fn outside_limits(x: u32, event: Event) -> bool {
             !(1..=3).contains(&kind) || !(x <= from && from <= to && to <= LAST_DAY)
         }
         Plan { kind } => !(1..=2).contains(&kind),
+        Price { price } => price < 1 || price > MOST_PRICE,
         Reverse { .. } | Warn | Disconnect | Connect => false,
     }
 }

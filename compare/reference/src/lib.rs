@@ -1,6 +1,7 @@
 //! The prepaid account of document 01, written a second time from the papers
-//! alone (01-scope.md, 00-minutes.md, OPEN-POINTS.md points 1 to 17; the account
-//! in C's memory from include/head.h), to be compared with the Rattle programs.
+//! alone (01-scope.md, 00-minutes.md, T-01 of 02-change-requests.md, OPEN-POINTS.md
+//! points 1 to 18; the account in C's memory from include/head.h), to be compared
+//! with the Rattle programs.
 
 pub mod calendar;
 #[path = "../../../include/head.rs"]

@@ -4,16 +4,20 @@
 //! What the header does not say, and is taken so here:
 //! - which of credit and debit an event raises: the comparison takes their difference alone;
 //! - a payment on a day past 399 lies in no month; a payment's `part` above its `amount` leaves nothing for the balance;
-//! - a read gives back no more of `standing` than it has.
+//! - a read gives back no more of `standing` than it has;
+//! - where no cell's day is above a usage day, whatever its number (one above 399 too), its price is that of the last cell;
+//! - an event that is no price leaves every cell of the prices as it was, and a price changes one cell alone, to its day and price.
 
 use crate::calendar::Date;
-pub use crate::head::{Account as Numbers, Day as DayCells, Payment as PaymentCells, Reading, Terms as TermCells, Totals};
-use crate::head::{DAYS, MAX_PAYMENTS};
-use crate::ledger::{Book, Entry, Event, Ledger, Payment, Terms, Usage, LAST_DAY};
+pub use crate::head::{Account as Numbers, Day as DayCells, Payment as PaymentCells, Price as PriceCells, Reading, Terms as TermCells, Totals};
+use crate::head::{DAYS, MAX_PAYMENTS, PRICE_CELLS};
+use crate::ledger::{Book, Entry, Event, Ledger, Payment, Terms, Usage, LAST_DAY, MOST_PRICE};
 use crate::rows::Head;
 
 /// A total above it is no account's.
 const MOST_TOTAL: u64 = 1 << 60;
+/// A cell of the prices that is not taken.
+const NO_PRICE: PriceCells = PriceCells { day: 400, price: 0 };
 
 impl TermCells {
     pub fn of(terms: &Terms) -> TermCells {
@@ -30,10 +34,13 @@ impl TermCells {
 impl Numbers {
     /// A fresh account's.
     pub fn fresh(terms: Terms) -> Numbers {
+        let mut prices = [NO_PRICE; PRICE_CELLS];
+        prices[0] = PriceCells { day: 0, price: terms.price };
         Numbers {
             totals: Totals::default(),
             charges: [0; 75],
             terms: TermCells::of(&terms),
+            prices,
             days: [DayCells::default(); DAYS],
             payments: [PaymentCells::default(); MAX_PAYMENTS],
             spare: 0,
@@ -75,6 +82,10 @@ impl Numbers {
                 Usage::Metered { wh, cost } => DayCells { state: 2, wh, cost: cost as u32 },
             };
         }
+        n.prices[0].price = ledger.price_on(0);
+        for (i, day) in ledger.price_days().into_iter().enumerate() {
+            n.prices[i + 1] = PriceCells { day, price: ledger.price_on(day) };
+        }
         for e in &ledger.list {
             match e.event {
                 Event::Charge { kind, amount } => n.charges[cell(&ledger.terms, e.day, kind)] += amount as u64,
@@ -84,6 +95,11 @@ impl Numbers {
             }
         }
         n
+    }
+
+    /// The cell that a price on day x goes to.
+    fn price_place(&self, x: u32) -> Option<usize> {
+        self.prices.iter().position(|p| p.day >= x)
     }
 
     fn totals_too_large(&self) -> bool {
@@ -112,6 +128,13 @@ impl Book for Numbers {
     fn has_room(&self, x: u32, event: Event) -> bool {
         match event {
             Event::Charge { kind, .. } => self.charges[cell(&self.terms(), x, kind)] <= MOST_TOTAL,
+            _ => true,
+        }
+    }
+
+    fn has_price(&self, event: Event) -> bool {
+        match event {
+            Event::Estimate { usage, .. } | Event::Read { usage, .. } => self.price_on(usage) <= MOST_PRICE,
             _ => true,
         }
     }
@@ -162,6 +185,17 @@ impl Book for Numbers {
         }
     }
 
+    fn price_on(&self, usage: u32) -> u32 {
+        match self.prices.iter().position(|p| p.day > usage).unwrap_or(PRICE_CELLS) {
+            0 => self.terms.price,
+            above => self.prices[above - 1].price,
+        }
+    }
+
+    fn has_no_price_place(&self, x: u32) -> bool {
+        self.price_place(x).is_none()
+    }
+
     fn is_warned(&self, x: u32) -> bool {
         (1..=7).any(|age| age <= x && self.warned[(x - age) as usize] == 1)
     }
@@ -190,6 +224,10 @@ impl Book for Numbers {
         let x = entry.day;
         let rise = balance - Book::balance(self);
         let terms = Book::terms(self);
+        let cost = match entry.event {
+            Estimate { usage, wh } | Read { usage, wh } => self.cost(usage, wh) as u32,
+            _ => 0,
+        };
         let t = &mut self.totals;
         *(if rise > 0 { &mut t.credit } else { &mut t.debit }) += rise.unsigned_abs();
         t.plan = plan as u64;
@@ -204,7 +242,6 @@ impl Book for Numbers {
             Credit { .. } | Plan { .. } => {}
             Charge { kind, amount } => self.charges[cell(&terms, x, kind)] += amount as u64,
             Estimate { usage, wh } => {
-                let cost = terms.cost(wh) as u32;
                 t.standing += cost as u64;
                 self.days[usage as usize] = DayCells { state: 1, wh, cost };
             }
@@ -213,7 +250,7 @@ impl Book for Numbers {
                 if day.state == 1 {
                     t.standing = t.standing.saturating_sub(day.cost as u64);
                 }
-                *day = DayCells { state: 2, wh, cost: terms.cost(wh) as u32 };
+                *day = DayCells { state: 2, wh, cost };
             }
             Warn => self.warned[x as usize] = 1,
             Mark { kind, from, to } => {
@@ -222,6 +259,10 @@ impl Book for Numbers {
                 }
             }
             Disconnect | Connect => t.on = service as u32,
+            Price { price } => {
+                let place = self.price_place(x).expect("row 17");
+                self.prices[place] = PriceCells { day: x, price };
+            }
         }
     }
 }

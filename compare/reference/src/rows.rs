@@ -23,6 +23,7 @@ impl Record {
             Event::Plan { kind } => (r.sort, r.kind) = (9, kind),
             Event::Disconnect => r.sort = 10,
             Event::Connect => r.sort = 11,
+            Event::Price { price } => (r.sort, r.amount) = (12, price),
         }
         r
     }
@@ -42,6 +43,7 @@ impl Record {
             9 => Event::Plan { kind },
             10 => Event::Disconnect,
             11 => Event::Connect,
+            12 => Event::Price { price: amount },
             _ => return None,
         })
     }

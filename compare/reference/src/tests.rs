@@ -89,10 +89,8 @@ fn worked_example_summary() {
 
 #[test]
 fn line_costs() {
-    let t = terms();
-    assert_eq!([39, 40, 30_000, 32_000].map(|wh| t.cost(wh)), [0, 1, 375, 400]);
-    let top = Terms { price: 99_999, ..t };
-    assert_eq!(top.cost(9_999_999), 9_999_899);
+    assert_eq!([39, 40, 30_000, 32_000].map(|wh| cost_at(1_250, wh)), [0, 1, 375, 400]);
+    assert_eq!(cost_at(99_999, 9_999_999), 9_999_899);
 }
 
 #[test]
@@ -334,6 +332,221 @@ fn full() {
     no(&mut l, 0, Event::Pay { amount: 0 }, 2);
 }
 
+// T-01: prices.
+
+/// The ledger and the numbers beside each other: each event is answered alike, and the readings and cells are the same afterwards.
+struct Both {
+    ledger: Ledger,
+    numbers: Numbers,
+}
+
+impl Both {
+    fn new() -> Both {
+        Both { ledger: ledger(), numbers: numbers() }
+    }
+
+    #[track_caller]
+    fn post(&mut self, x: u32, e: Event) -> Answer {
+        let before = (self.ledger.clone(), self.numbers);
+        let answer = self.ledger.step(x, e);
+        assert_eq!(self.numbers.post(&Record::of(x, e)), answer);
+        if answer.code != 0 {
+            assert!(answer.value == 0 && (self.ledger.clone(), self.numbers) == before);
+        }
+        let (r, l) = (self.numbers.readings(), &self.ledger);
+        assert_eq!((r.balance, r.settled, r.estimates as i64), (l.balance, l.settled(), l.standing_estimates()));
+        assert_eq!(self.numbers.prices, Numbers::of(l).prices);
+        assert_eq!(self.numbers.days, Numbers::of(l).days);
+        answer
+    }
+
+    #[track_caller]
+    fn code(&mut self, x: u32, e: Event) -> u8 {
+        self.post(x, e).code
+    }
+
+    /// A good price: 0, the value 0, and B, R and service stay.
+    #[track_caller]
+    fn price(&mut self, x: u32, price: u32) {
+        let before = (self.ledger.balance, self.ledger.plan, self.ledger.service, self.ledger.list.len());
+        assert_eq!(self.post(x, Event::Price { price }), Answer { code: 0, value: 0 });
+        let after = (self.ledger.balance, self.ledger.plan, self.ledger.service, self.ledger.list.len() - 1);
+        assert_eq!((after, self.ledger.last_day()), (before, x));
+    }
+
+    /// Warnings on day x until so many events are accepted.
+    fn fill(&mut self, x: u32, events: usize) {
+        while self.ledger.list.len() < events {
+            assert_eq!(self.ledger.step(x, Event::Warn), self.numbers.post(&Record::of(x, Event::Warn)));
+        }
+    }
+}
+
+#[test]
+fn price_limits() {
+    let mut b = Both::new();
+    for (price, code) in [(0, 3), (1, 0), (99_999, 0), (100_000, 3), (65_536 + 1_250, 0), (1 << 31, 3), (u32::MAX, 3)] {
+        assert_eq!(b.code(3, Event::Price { price }), code, "{price}");
+    }
+    assert_eq!(b.ledger.price_on(3), 65_536 + 1_250);
+    assert_eq!(b.code(2, Event::Price { price: 0 }), 2);
+    assert_eq!(b.code(2, Event::Price { price: 5 }), 2);
+    assert_eq!(b.code(400, Event::Price { price: 5 }), 2);
+    b.price(399, 5);
+    // The opening price stays.
+    assert_eq!((b.ledger.terms.price, b.numbers.terms.price), (1_250, 1_250));
+}
+
+#[test]
+fn sixteen_price_days() {
+    let mut b = Both::new();
+    for day in 1..=16 {
+        b.price(day, 1_000 + day);
+        // A second one on the same day takes no second place.
+        b.price(day, 2_000 + day);
+    }
+    b.price(16, 7);
+    for price in [1, 99_999] {
+        assert_eq!(b.code(17, Event::Price { price }), 17);
+    }
+    assert_eq!(b.code(17, Event::Price { price: 0 }), 3);
+    b.price(16, 8);
+    assert_eq!([0, 1, 15, 16, 17, 399].map(|u| b.ledger.price_on(u)), [1_250, 2_001, 2_015, 8, 8, 8]);
+    assert_eq!(b.code(17, Event::Warn), 0);
+    assert_eq!(b.code(16, Event::Price { price: 9 }), 2);
+    assert_eq!(b.code(17, Event::Price { price: 9 }), 17);
+}
+
+#[test]
+fn price_on_day_0() {
+    let mut b = Both::new();
+    b.price(0, 2_500);
+    b.price(0, 5_000);
+    assert_eq!(b.post(1, Event::Read { usage: 0, wh: 30_000 }), Answer { code: 0, value: 1_500 });
+    // It has taken none of the sixteen places.
+    for day in 1..=16 {
+        b.price(day, 10 * day);
+    }
+    assert_eq!(b.code(17, Event::Price { price: 1 }), 17);
+    assert_eq!([0, 1, 16].map(|u| b.ledger.price_on(u)), [5_000, 10, 160]);
+    assert_eq!(b.numbers.terms.price, 1_250);
+}
+
+#[test]
+fn price_of_the_usage_day() {
+    let cost = |b: &mut Both, x, usage| b.post(x, Event::Estimate { usage, wh: 30_000 });
+    // Whenever they are posted, before the move or after it.
+    for (fourth, fifth) in [(5, 6), (6, 6), (7, 9), (399, 399)] {
+        let mut b = Both::new();
+        if fourth == 5 {
+            assert_eq!(cost(&mut b, 5, 4), Answer { code: 0, value: 375 });
+        }
+        b.price(5, 2_500);
+        if fourth > 5 {
+            assert_eq!(cost(&mut b, fourth, 4), Answer { code: 0, value: 375 });
+        }
+        assert_eq!(cost(&mut b, fifth, 5), Answer { code: 0, value: 750 });
+        assert_eq!(b.ledger.balance, -375 - 750);
+        assert_eq!(b.post(399, Event::Read { usage: 4, wh: 32_000 }), Answer { code: 0, value: 400 });
+        assert_eq!(b.post(399, Event::Read { usage: 5, wh: 32_000 }), Answer { code: 0, value: 800 });
+        assert_eq!(b.post(399, Event::Read { usage: 398, wh: 32_000 }), Answer { code: 0, value: 800 });
+        assert_eq!(b.post(399, Event::Read { usage: 0, wh: 32_000 }), Answer { code: 0, value: 400 });
+        assert_eq!((b.ledger.settled(), b.ledger.standing_estimates()), (-2_400, 0));
+    }
+}
+
+#[test]
+fn estimate_read_after_the_move() {
+    let mut b = Both::new();
+    assert_eq!(b.post(5, Event::Estimate { usage: 4, wh: 30_000 }).value, 375);
+    b.price(5, 2_500);
+    b.price(9, 5_000);
+    assert_eq!((b.ledger.standing_estimates(), b.ledger.balance), (375, -375));
+    assert_eq!(b.post(9, Event::Read { usage: 4, wh: 32_000 }), Answer { code: 0, value: 400 });
+    assert_eq!((b.ledger.settled(), b.ledger.standing_estimates(), b.ledger.balance), (-400, 0, -400));
+    // The same in the month's figures, which keep the costs as posted.
+    assert_eq!(b.post(10, Event::Estimate { usage: 9, wh: 30_000 }).value, 1_500);
+    b.price(10, 1);
+    let s = summary::summary(&b.ledger, 0);
+    assert_eq!((s.metered_cost, s.estimated_cost, s.average), (400, 1_500, 3_065));
+    assert_eq!(summary::summary(&b.numbers, 0), s);
+}
+
+#[test]
+fn price_when_full() {
+    let mut b = Both::new();
+    for day in 1..=16 {
+        b.price(day, day);
+    }
+    b.fill(16, MOST_EVENTS);
+    // Account and table are full: 2, 3, 4, 17.
+    assert_eq!(b.code(15, Event::Price { price: 0 }), 2);
+    for (x, price, code) in [(17, 0, 3), (17, 100_000, 3), (17, 1, 4), (16, 1, 4), (16, 0, 3)] {
+        assert_eq!(b.code(x, Event::Price { price }), code);
+    }
+    // The last of the 4,096.
+    let mut b = Both::new();
+    b.fill(0, MOST_EVENTS - 1);
+    b.price(0, 9);
+    assert_eq!([b.code(0, Event::Price { price: 9 }), b.code(0, Event::Price { price: 0 })], [4, 3]);
+}
+
+/// The law of the ledger: while L has no price event, the opening price is in force on every day. And a later event changes no usage day's cost.
+#[test]
+fn price_laws() {
+    let mut b = Both::new();
+    for record in full_records() {
+        let costs: Vec<u32> = b.numbers.days.iter().map(|d| if d.state == 1 || d.state == 2 { d.cost } else { 0 }).collect();
+        let event = record.event().unwrap();
+        let read = match event {
+            Event::Read { usage, .. } | Event::Estimate { usage, .. } => usage as usize,
+            _ => 400,
+        };
+        b.post(record.day, event);
+        if !b.ledger.list.iter().any(|e| matches!(e.event, Event::Price { .. })) {
+            assert!((0..400).all(|u| b.ledger.price_on(u) == 1_250 && b.numbers.price_on(u) == 1_250));
+        }
+        for u in (0..400).filter(|&u| u != read) {
+            assert_eq!(b.numbers.days[u].cost, costs[u]);
+        }
+    }
+    assert_eq!([35, 36, 399].map(|u| b.ledger.price_on(u)), [1_250, 2_500, 2_500]);
+    // In any order: the numbers keep each cost as it was posted, the ledger's is worked out of the whole list.
+    let mut b = Both::new();
+    let (mut s, mut x, mut posted) = (3u64, 0, [0; 3]);
+    let mut pick = |n: u64| {
+        s = s.wrapping_mul(6364136223846793005).wrapping_add(1442695040888963407);
+        ((s >> 33) % n) as u32
+    };
+    for _ in 0..600 {
+        x += (pick(4) == 0) as u32;
+        let wh = pick(60_000);
+        let (i, e) = match pick(9) {
+            0..=3 => (0, Event::Estimate { usage: pick(x as u64 + 1), wh }),
+            4..=7 => (1, Event::Read { usage: pick(x as u64 + 1), wh }),
+            _ => (2, Event::Price { price: 1 + wh }),
+        };
+        posted[i] += (b.code(x, e) == 0) as u32;
+    }
+    assert!(posted.iter().all(|&n| n > 20), "{posted:?}");
+}
+
+#[test]
+fn price_in_text() {
+    let text = format!(
+        "{TERMS}day=0\ndo=price\nprice=2500\nday=5\ndo=price\nprice=100000\nday=5\ndo=price\nprice=5000\n\
+         day=6\ndo=read\nusage=4\nwh=30000\nday=6\ndo=estimate\nusage=5\nwh=30000\nday=6\ndo=price\nprice=4294967295\n"
+    );
+    let lines = [
+        "n=1 code=0 value=0 balance=0 plan=0", "n=2 code=3 value=0 balance=0 plan=0", "n=3 code=0 value=0 balance=0 plan=0",
+        "n=4 code=0 value=750 balance=-750 plan=0", "n=5 code=0 value=1500 balance=-2250 plan=0", "n=6 code=3 value=0 balance=-2250 plan=0",
+        "settled=-750 estimates=1500", "",
+    ];
+    assert_eq!(prepay(text.as_bytes()), lines.join("\n"));
+    let month = summary::print(&run(text.as_bytes()));
+    assert!(month.contains("metered_wh=30000 metered_cost=750 estimated_wh=30000 estimated_cost=1500"));
+}
+
 // Text.
 
 #[test]
@@ -372,7 +585,8 @@ fn broken_events() {
         "day=0\ndo=pay\namount=01\n", "day=0\ndo=pay\namount=+1\n", "day=0\ndo=pay\namount=-1\n",
         "day=0\ndo=pay\namount=4294967296\n", "day=0\ndo=pay\namount=99999999999999999999999\n",
         "day=00\ndo=warn\n", "do=warn\nday=0\n", "day=500\ndo=form\n", "day=0\ndo=charge\namount=1\nkind=1\n",
-        "day=0\ndo=pay\namount=1 \n", "day=0\ndo=pay\nnumber=1\n", "amount=7\n", "day =0\ndo=warn\n",
+        "day=0\ndo=price\namount=1\n", "day=0\ndo=price\n", "day=0\ndo=price\nprice=01\n", "day=0\ndo=price\nprice=4294967296\n",
+        "day=0\ndo=Price\nprice=1\n", "day=0\ndo=price\nPrice=1\n", "price=1\n", "day=0\ndo=pay\namount=1 \n", "day=0\ndo=pay\nnumber=1\n", "amount=7\n", "day =0\ndo=warn\n",
     ] {
         assert_eq!(tail(s), broken, "{s:?}");
     }
@@ -426,6 +640,7 @@ fn settled_identity() {
             3 | 4 => Event::Charge { kind: pick(5) + 1, amount },
             5 => Event::Estimate { usage: pick(400), wh: amount * 9 },
             6 => Event::Read { usage: pick(400), wh: amount * 9 },
+            7 if pick(3) == 0 => Event::Price { price: amount },
             _ => Event::Plan { kind: 2 },
         };
         l.step(x, e);
@@ -491,7 +706,7 @@ fn rows_of_the_worked_example() {
 fn sorts_outside_their_limits() {
     let mut head = opened();
     head.post(&Record { sort: 7, day: 5, ..Record::default() });
-    for sort in [0, 12, 256 + 7, u32::MAX] {
+    for sort in [0, 13, 256 + 7, 256 + 12, u32::MAX] {
         for (day, code) in [(4, 2), (5, 3), (399, 3), (400, 2)] {
             assert_eq!(head.post(&Record { sort, day, ..Record::default() }), Answer { code, value: 0 });
         }
@@ -567,6 +782,10 @@ fn full_records() -> Vec<Record> {
         of(35, Event::Estimate { usage: 34, wh: 5_000 }),
         of(36, Event::Read { usage: 4, wh: 1 }),
         of(36, Event::Pay { amount: 0 }),
+        of(36, Event::Price { price: 2_500 }),
+        of(37, Event::Read { usage: 35, wh: 30_000 }),
+        of(37, Event::Estimate { usage: 36, wh: 30_000 }),
+        of(37, Event::Price { price: 100_000 }),
     ]);
     records
 }
@@ -587,7 +806,8 @@ fn numbers_of_a_ledger() {
             assert_eq!(summary::summary(&n, m), summary::summary(ledger, m));
         }
     }
-    assert_eq!((n.totals.count, n.totals.events, n.totals.last, n.totals.on), (3, 20, 36, 1));
+    assert_eq!((n.totals.count, n.totals.events, n.totals.last, n.totals.on), (3, 23, 37, 1));
+    assert_eq!([n.days[35].cost, n.days[36].cost], [375, 750]);
     assert_eq!((n.marks[7], n.payments[2].part, n.payments[2].reversed), (5, 1_500, 1));
 }
 
@@ -672,6 +892,80 @@ fn damaged_numbers() {
     assert_eq!(n.post(&credit).code, 2);
     (n.totals.last, n.totals.events) = (0, 4_095);
     assert_eq!([n.post(&credit).code, n.post(&credit).code], [0, 4]);
+}
+
+#[test]
+fn price_cells() {
+    let price = |x, price| Record::of(x, Event::Price { price });
+    let read = |x, usage| Record::of(x, Event::Read { usage, wh: 100_000 });
+    let cells = |n: &Numbers| n.prices.iter().map(|p| (p.day, p.price)).collect::<Vec<(u32, u32)>>();
+    let mut fresh = vec![(400, 0); 17];
+    fresh[0] = (0, 1_250);
+    assert_eq!(cells(&numbers()), fresh);
+    // A price goes to the first cell whose day is not below its own.
+    let mut n = numbers();
+    for (x, p) in [(0, 7), (4, 8), (4, 9), (6, 10)] {
+        assert_eq!(n.post(&price(x, p)), Answer { code: 0, value: 0 });
+    }
+    assert_eq!(cells(&n)[..4], [(0, 7), (4, 9), (6, 10), (400, 0)]);
+    assert_eq!((n.terms.price, n.totals.events, n.totals.last), (1_250, 4, 6));
+    // Days out of order.
+    let with = |from: &[(u32, u32)]| {
+        let mut n = numbers();
+        for (cell, &(day, price)) in n.prices.iter_mut().zip(from) {
+            *cell = PriceCells { day, price };
+        }
+        n
+    };
+    let n = with(&[(0, 10), (50, 20), (5, 30), (60, 40), (7, 50)]);
+    assert_eq!([0, 4, 5, 49, 50, 59, 60, 399].map(|u| n.price_on(u)), [10, 10, 10, 10, 30, 30, 50, 50]);
+    let mut after = n;
+    assert_eq!(after.post(&price(7, 60)).code, 0);
+    assert_eq!(cells(&after)[..3], [(0, 10), (7, 60), (5, 30)]);
+    // Day 400 in the middle; where the first cell is above, the opening price.
+    let n = with(&[(0, 10), (400, 20), (5, 30)]);
+    assert_eq!([0, 399].map(|u| n.price_on(u)), [10, 10]);
+    let n = with(&[(3, 10), (2, 20)]);
+    assert_eq!([0, 2, 3, 4].map(|u| n.price_on(u)), [1_250, 1_250, 20, 20]);
+    // All seventeen at or below: the last cell's; and no place.
+    let n = with(&[(0, 10); 17]);
+    assert_eq!([0, 399].map(|u| n.price_on(u)), [10, 10]);
+    let mut after = with(&[(2, 10); 17]);
+    assert_eq!([after.post(&price(3, 5)).code, after.post(&price(3, 0)).code, after.post(&price(2, 5)).code], [17, 3, 0]);
+    assert_eq!(cells(&after)[..2], [(2, 5), (2, 10)]);
+    let mut zeros = with(&[(0, 0); 17]);
+    assert_eq!(zeros.post(&read(9, 8)), Answer { code: 0, value: 0 });
+    assert_eq!(zeros.post(&price(9, 5)).code, 17);
+    assert_eq!(zeros.days[8], DayCells { state: 2, wh: 100_000, cost: 0 });
+}
+
+#[test]
+fn price_that_no_account_has() {
+    let read = |x, usage, wh| Record::of(x, Event::Read { usage, wh });
+    let with = |price| {
+        let mut n = numbers();
+        n.prices[1] = PriceCells { day: 5, price };
+        n.totals.last = 6;
+        n
+    };
+    assert_eq!(with(99_999).post(&read(6, 5, 100_000)), Answer { code: 0, value: 99_999 });
+    for price in [100_000, u32::MAX] {
+        let mut n = with(price);
+        n.days[5].state = 2;
+        let before = n;
+        let mut codes = |events: &[Record]| events.iter().map(|e| n.post(e).code).collect::<Vec<u8>>();
+        // After 2 and 3; before 7 and 8.
+        assert_eq!(codes(&[read(5, 5, 0), read(6, 5, 10_000_000), read(6, 5, 0), read(6, 6, 0), read(6, 399, 0)]), [2, 3, 1, 1, 1]);
+        assert_eq!(codes(&[Record::of(6, Event::Estimate { usage: 5, wh: 0 })]), [1]);
+        assert_eq!(n, before);
+        n.totals.events = 4_096;
+        assert_eq!(n.post(&read(6, 5, 0)).code, 4);
+        // Other events and other days do not look at it.
+        n.totals.events = 9;
+        assert_eq!([n.post(&read(6, 4, 100_000)).value, n.post(&Record::of(6, Event::Price { price: 3 })).code as i64], [1_250, 0]);
+        assert_eq!((n.prices[1].price, n.prices[2].price), (price, 3));
+        assert_eq!(summary::summary(&n, 0).code, 0);
+    }
 }
 
 #[test]

@@ -55,6 +55,7 @@ impl<'a> Reader<'a> {
             b"plan" => Event::Plan { kind: self.number("kind")? },
             b"disconnect" => Event::Disconnect,
             b"connect" => Event::Connect,
+            b"price" => Event::Price { price: self.number("price")? },
             _ => return None,
         };
         Some((day, event))
@@ -213,6 +214,7 @@ pub fn write_event(out: &mut Vec<u8>, day: u32, event: Event) {
         Event::Plan { kind } => write!(s, "do=plan\nkind={kind}\n"),
         Event::Disconnect => write!(s, "do=disconnect\n"),
         Event::Connect => write!(s, "do=connect\n"),
+        Event::Price { price } => write!(s, "do=price\nprice={price}\n"),
     }
     .unwrap();
     out.extend_from_slice(s.as_bytes());

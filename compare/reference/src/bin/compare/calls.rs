@@ -43,13 +43,14 @@ pub struct Difference {
 
 // Making lists.
 
-const KINDS: [(&str, u64); 12] = [
+const KINDS: [(&str, u64); 13] = [
     ("steered", 42),
     ("damaged", 15),
     ("pointed", 15),
     ("arbitrary", 16),
     ("random", 10),
     ("payments", 7),
+    ("prices", 8),
     ("terms", 7),
     ("year", 4),
     ("long", 4),
@@ -93,6 +94,7 @@ pub fn list(r: &mut Rng) -> (List, &'static str) {
             "steered" | "damaged" => generate::guided(r, 3_000, 40),
             "random" => generate::random(r, 1_500),
             "payments" => generate::payments(r),
+            "prices" => generate::prices(r),
             "year" => generate::year(r),
             "long" => generate::guided(r, generate::WHOLE, 5_000),
             "full" => generate::full(r),
@@ -202,9 +204,9 @@ fn any_number(r: &mut Rng) -> u32 {
 
 fn any_sort(r: &mut Rng) -> u32 {
     match r.below(10) {
-        0 => r.pick(&[0, 12, 13, 255, 256, 257, 263, 267, 65_536 + 7, (1 << 31) + 3, u32::MAX]),
+        0 => r.pick(&[0, 13, 14, 255, 256, 257, 263, 267, 268, 65_536 + 7, (1 << 31) + 3, u32::MAX]),
         1 => r.any_u32(),
-        _ => r.range(1, 11) as u32,
+        _ => r.range(1, 12) as u32,
     }
 }
 
@@ -239,7 +241,7 @@ fn near_record(r: &mut Rng, x: u32) -> Record {
     Record {
         sort: any_sort(r),
         day: if r.percent(90) { x } else { near(r) },
-        amount: r.range(0, 9_000) as u32,
+        amount: if r.percent(90) { r.range(0, 9_000) as u32 } else { r.pick(&[0, 99_999, 100_000, 131_072]) },
         number: r.below(6) as u32,
         kind: r.range(0, 6) as u32,
         usage: near(r),
@@ -254,7 +256,7 @@ fn with_unnamed(record: &Record, other: &Record) -> Record {
     let &Record { sort, day, amount, number, kind, usage, wh, from, to } = record;
     let other = Record { sort, day, ..*other };
     match sort {
-        1 | 3 => Record { amount, ..other },
+        1 | 3 | 12 => Record { amount, ..other },
         2 => Record { number, ..other },
         4 => Record { kind, amount, ..other },
         5 | 6 => Record { usage, wh, ..other },

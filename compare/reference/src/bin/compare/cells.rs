@@ -2,7 +2,7 @@
 
 use crate::generate;
 use crate::rng::Rng;
-use reference::head::ACCOUNT_SIZE;
+use reference::head::{ACCOUNT_SIZE, PRICE_CELLS};
 use reference::ledger::{Event, Terms};
 use reference::numbers::{DayCells, Numbers, TermCells};
 use reference::rows::Record;
@@ -16,11 +16,12 @@ pub struct Cell {
 }
 
 /// The groups as they stand in memory: name, bytes of a number, how many, fields.
-const GROUPS: [(&str, usize, usize, &[&str]); 9] = [
+const GROUPS: [(&str, usize, usize, &[&str]); 10] = [
     ("totals", 8, 1, &["credit", "debit", "plan", "standing"]),
     ("counts", 4, 1, &["count", "events", "last", "on"]),
     ("charges", 8, 75, &["sum"]),
     ("terms", 4, 1, &["year", "month", "day", "price", "connect", "cutoff", "share"]),
+    ("prices", 4, PRICE_CELLS, &["day", "price"]),
     ("days", 4, 400, &["state", "wh", "cost"]),
     ("payments", 4, 128, &["day", "amount", "part", "reversed"]),
     ("spare", 4, 1, &["number"]),
@@ -154,6 +155,18 @@ fn wrong(r: &mut Rng, cell: Cell) -> u64 {
                 _ => share,
             }) as u64
         }
+        ("prices", "day") => match r.below(5) {
+            0 => r.pick(&[398, 399, 400, 401, 65_536, u32::MAX as u64]),
+            1 => r.pick(&[0, 400]),
+            2 => r.below(12),
+            _ => r.below(401),
+        },
+        ("prices", _) => match r.below(8) {
+            0 => r.pick(&[100_000, 100_001, (1 << 17) + 1, 1 << 31, u32::MAX as u64]),
+            1 => r.pick(&[0, 1, 99_999, 100_000, u32::MAX as u64]),
+            2 => any,
+            _ => r.range(1, 99_999) as u64,
+        },
         (_, "state" | "reversed") if r.percent(50) => r.below(3),
         (_, "state" | "reversed") => r.pick(&flag),
         ("payments", "day") => match r.below(4) {
@@ -175,13 +188,53 @@ fn wrong(r: &mut Rng, cell: Cell) -> u64 {
     }
 }
 
+/// All cells of the prices, for a price on day `x` or the price of a usage day: in order as an account's are, or not.
+fn price_cells(r: &mut Rng, x: u32, usage: u32) -> Vec<(Cell, u64)> {
+    let (x, usage) = (x as i64, usage.min(399) as i64);
+    let mut days = [400; PRICE_CELLS];
+    match r.below(8) {
+        0 => days.fill(r.pick(&[0, 0, 400, usage, usage + 1, x, u32::MAX as i64])),
+        1 => days = days.map(|_| r.range(0, 400)),
+        2 => days = days.map(|_| r.pick(&[0, usage - 1, usage, usage + 1, x - 1, x, x + 1, 400]).max(0)),
+        _ => {
+            // The last one taken is near the two days.
+            let taken = r.pick(&[1, 2, 3, 8, 16, 17, 17]);
+            let last = r.pick(&[usage - 1, usage, usage, usage + 1, x - 1, x, x + 1, x + 9]);
+            let step = r.pick(&[1, 1, 2, 7]);
+            for (i, day) in days[..taken].iter_mut().enumerate() {
+                *day = (last - step * (taken - 1 - i) as i64).max(i as i64);
+            }
+            if r.percent(80) {
+                days[0] = 0;
+            }
+        }
+    }
+    for _ in 0..r.pick(&[0, 0, 0, 1, 1, 3]) {
+        days[r.index(PRICE_CELLS)] = r.pick(&[0, usage, usage + 1, x, 398, 399, 400, 400, 400, 401, 65_536, u32::MAX as i64]);
+    }
+    if r.percent(15) {
+        days.swap(r.index(PRICE_CELLS), r.index(PRICE_CELLS));
+    }
+    let zeros = r.percent(4);
+    let mut cells = Vec::new();
+    for index in 0..PRICE_CELLS {
+        let cell = |field| Cell { group: GROUPS.iter().position(|g| g.0 == "prices").unwrap(), index, field };
+        let price = wrong(r, cell(1));
+        cells.push((cell(0), if zeros { 0 } else { days[index] as u64 }));
+        cells.push((cell(1), if zeros { 0 } else { price }));
+    }
+    cells
+}
+
 /// An event on day `x`, and wrong numbers in the cells that it looks at.
 pub fn pointed(r: &mut Rng, terms: &Terms, x: u32) -> (Vec<(Cell, u64)>, Record) {
     let amount = if r.percent(80) { 1 + r.below(9_000) as u32 } else { r.pick(&[1, 10_000_000]) };
     let (number, kind, usage) = (r.pick(&[0, 1, 2, 127]), r.range(1, 5) as u32, x.saturating_sub(1 + r.below(5) as u32));
+    let usage = if r.percent(92) { usage } else { r.pick(&[x, x + 1, 399, 400, 401, 800, u32::MAX]) };
     let from = (x + r.below(3) as u32).min(399);
     let to = (from + r.below(4) as u32).min(399);
-    let event = match r.below(12) {
+    let event = match r.below(14) {
+        12 | 13 => Event::Price { price: r.pick(&[1, 2, 1_250, 2_500, 99_998, 99_999]) },
         0 => Event::Pay { amount },
         1 | 2 => Event::Reverse { number },
         3 => Event::Credit { amount },
@@ -197,12 +250,12 @@ pub fn pointed(r: &mut Rng, terms: &Terms, x: u32) -> (Vec<(Cell, u64)>, Record)
         Event::Pay { .. } => (0..4).map(|i| ("payments", i)).chain([("payments", 127)]).collect(),
         Event::Reverse { number } => vec![("payments", number); 3],
         Event::Charge { kind, .. } => vec![("charges", terms.month_of(x) * 5 + kind - 1)],
-        Event::Estimate { usage, .. } | Event::Read { usage, .. } => vec![("days", usage); 2],
+        Event::Estimate { usage, .. } | Event::Read { usage, .. } => vec![("days", usage.min(399)); 2],
         Event::Warn => vec![("warned", x)],
         Event::Mark { from, to, .. } => (from..=to).map(|day| ("marks", day)).collect(),
         Event::Plan { .. } => (x.saturating_sub(3)..=x).map(|day| ("marks", day)).collect(),
         Event::Disconnect => (x.saturating_sub(8)..=x).map(|day| ("warned", day)).chain([("marks", x)]).collect(),
-        Event::Credit { .. } | Event::Connect => Vec::new(),
+        Event::Credit { .. } | Event::Connect | Event::Price { .. } => Vec::new(),
     };
     names.retain(|_| r.percent(75));
     let mut cells: Vec<(Cell, u64)> = Vec::new();
@@ -214,6 +267,9 @@ pub fn pointed(r: &mut Rng, terms: &Terms, x: u32) -> (Vec<(Cell, u64)>, Record)
                 cells.push((cell, wrong(r, cell)));
             }
         }
+    }
+    if matches!(event, Event::Estimate { .. } | Event::Read { .. } | Event::Price { .. }) && r.percent(85) {
+        cells.extend(price_cells(r, x, usage));
     }
     for cell in Cell::all().filter(|c| matches!(GROUPS[c.group].0, "totals" | "counts")) {
         if r.percent(25) {
@@ -259,13 +315,14 @@ pub fn damage(r: &mut Rng, coming: &[Record]) -> Vec<(Cell, u64)> {
     }
     let few = r.pick(&[1, 1, 2, 3, 6, 20]);
     let of_group = |r: &mut Rng| {
-        let group = r.weighted(&[12, 14, 8, 3, 30, 20, 1, 8, 8]);
+        let group = r.weighted(&[12, 14, 8, 3, 14, 30, 20, 1, 8, 8]);
         let (name, _, count, fields) = GROUPS[group];
         let field = r.index(fields.len());
         let near = coming.get(r.index(coming.len().clamp(1, 6))).copied().unwrap_or_default();
         let index = match name {
             "payments" => r.pick(&[near.number as usize, 0, 0, 1, 2, 127]),
             "charges" if r.percent(80) => r.index(10),
+            "prices" => r.pick(&[0, 0, 1, 1, 2, 3, 15, 16]),
             "days" => near.usage as usize,
             "warned" => (near.day as usize).wrapping_sub(r.index(9)),
             "marks" => (near.day as usize).wrapping_sub(r.index(5)),

@@ -70,13 +70,13 @@ const NUMBERS: &[&str] = &[
     "4294967297", "4294967295 ", "04294967295", "42949672950", "9999999999", "10000000000", "8589934592",
     "18446744073709551615", "18446744073709551616", "18446744073709551617", "36893488147419103233",
     "340282366920938463463374607431768211457", "00000000000000000001", "0x1", "1e3", "1_0", "1,0", "1.0", " 1", "1 ",
-    "1\t", "1\r", "\u{663}", "one", "NaN", "1=1", "=1", "/", ":", "1/", "1:", "10000000", "10000001", "9999999",
+    "1\t", "1\r", "\u{663}", "one", "NaN", "1=1", "=1", "/", ":", "1/", "1:", "10000000", "10000001", "9999999", "99999", "100000",
 ];
 
 const WORDS: &[&str] = &[
     "", "Pay", "PAY", "pay ", " pay", "payy", "pa", "pays", "reverse", "revers", "credit", "charge", "estimate", "read",
     "reads", "warn", "warning", "mark", "plan", "disconnect", "disconnec", "connect", "connects", "pay\r", "pay\0", "open",
-    "day", "price", "instalment", "withdraw", "form", "0", "1", "pay=", "pay", "con", "dis", "recredit", "c", "estimated",
+    "day", "price", "price", "prices", "pric", "Price", "price ", "instalment", "withdraw", "form", "0", "1", "pay=", "pay", "con", "dis", "recredit", "c", "estimated",
 ];
 
 const KEYS: &[&str] = &[

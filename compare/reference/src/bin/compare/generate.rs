@@ -3,16 +3,17 @@
 use crate::damage;
 use crate::rng::Rng;
 use reference::calendar::{days_in_month, Date};
-use reference::ledger::{Book, Event, Ledger, Terms, Usage, LAST_DAY, MOST_AMOUNT, MOST_EVENTS, MOST_WH};
+use reference::ledger::{cost_at, Book, Event, Ledger, Terms, Usage, LAST_DAY, MOST_AMOUNT, MOST_EVENTS, MOST_PRICE, MOST_PRICE_DAYS, MOST_WH};
 use reference::text::{write_event, write_terms, MOST_BYTES};
 use Event::*;
 
-const KINDS: [(&str, u64); 13] = [
+const KINDS: [(&str, u64); 14] = [
     ("guided", 34),
     ("random", 10),
     ("damaged", 30),
     ("terms", 8),
     ("payments", 4),
+    ("prices", 6),
     ("year", 3),
     ("long", 3),
     ("full", 2),
@@ -38,6 +39,7 @@ pub fn text(r: &mut Rng) -> (Vec<u8>, &'static str) {
         }
         "terms" => terms_text(r),
         "payments" => payments(r),
+        "prices" => prices(r),
         "year" => year(r),
         "long" => guided(r, MOST_BYTES, 5_000),
         "full" => full(r),
@@ -408,16 +410,16 @@ impl<'a> Guide<'a> {
         }
     }
 
-    /// Wh next to a step of the cost, or at the limits.
-    fn wh(&mut self) -> u32 {
-        let price = self.l.terms.price as i64;
+    /// Wh next to a step of the usage day's cost, or at the limits.
+    fn wh(&mut self, usage: u32) -> u32 {
+        let price = self.l.price_on(usage) as i64;
         match self.r.below(10) {
             0 => 0,
             1 => self.r.pick(&[1, 39, 40, MOST_WH - 1, MOST_WH]),
             2 => self.r.range(0, MOST_WH as i64) as u32,
             3 => self.r.range(0, 40_000) as u32,
             _ => {
-                let top = self.l.terms.cost(MOST_WH);
+                let top = cost_at(price as u32, MOST_WH);
                 let cents = match self.r.below(3) {
                     0 => self.r.range(0, 3),
                     1 => self.r.range(0, 1_000),
@@ -442,7 +444,9 @@ impl<'a> Guide<'a> {
                 _ => None,
             })
             .collect();
-        match self.r.below(10) {
+        let moves = self.l.price_days();
+        match self.r.below(12) {
+            10 | 11 if !moves.is_empty() => (self.r.pick(&moves) + self.r.pick(&[0, 0, 1, 2])).saturating_sub(1),
             0 => x,
             1 => x + 1,
             2 => self.r.pick(&[0, 1, 398, 399, 400, 65_536, u32::MAX]),
@@ -454,14 +458,72 @@ impl<'a> Guide<'a> {
 
     fn usage(&mut self) {
         for _ in 0..self.r.range(1, 3) {
-            let (usage, wh) = (self.usage_day(), self.wh());
+            let usage = self.usage_day();
+            let wh = self.wh(usage);
             let estimate = self.r.percent(50);
             self.now(if estimate { Estimate { usage, wh } } else { Read { usage, wh } });
             if self.r.percent(30) {
-                let wh = self.wh();
+                let wh = self.wh(usage);
                 let read = self.r.percent(80);
                 self.now(if read { Read { usage, wh } } else { Estimate { usage, wh } });
             }
+        }
+    }
+
+    /// At the limits, one that is or was in force, or any.
+    fn price_number(&mut self) -> u32 {
+        match self.r.below(14) {
+            0 => self.r.pick(&[0, MOST_PRICE + 1, u32::MAX, (1 << 17) + 1_250, 1 << 31]),
+            1 => 0,
+            2 => MOST_PRICE + 1,
+            3 => 1,
+            4 => MOST_PRICE,
+            5 => self.l.terms.price,
+            6 => self.l.price_on(self.x),
+            _ => self.good_price(),
+        }
+    }
+
+    fn good_price(&mut self) -> u32 {
+        self.r.range(1, MOST_PRICE as i64) as u32
+    }
+
+    fn price(&mut self) -> u8 {
+        let price = self.price_number();
+        self.now(Price { price })
+    }
+
+    /// A move of the price, estimates before it, reads and estimates after it, of days on both its sides.
+    fn price_moves(&mut self) {
+        let day = self.x;
+        for _ in 0..self.r.below(3) {
+            let usage = day.saturating_sub(1 + self.r.below(3) as u32);
+            let wh = self.wh(usage);
+            self.now(Estimate { usage, wh });
+        }
+        for _ in 0..self.r.pick(&[1, 1, 1, 2, 3]) {
+            self.price();
+        }
+        let days = self.r.pick(&[0, 1, 1, 2, 2, 3, 9]);
+        self.advance(days);
+        if self.r.percent(25) {
+            self.price();
+        }
+        for _ in 0..self.r.below(4) {
+            let usage = (day + self.r.pick(&[0, 0, 1, 2, 3, 3])).saturating_sub(2);
+            let wh = self.wh(usage);
+            let read = self.r.percent(70);
+            self.now(if read { Read { usage, wh } } else { Estimate { usage, wh } });
+        }
+    }
+
+    /// Good prices on different days, until so many days after day 0 have one.
+    fn fill_prices(&mut self, days: usize) {
+        while self.l.price_days().len() < days && self.x < self.top && !self.stopped {
+            let on = self.r.pick(&[1, 1, 1, 1, 2]);
+            self.advance(on);
+            let price = self.good_price();
+            self.now(Price { price });
         }
     }
 
@@ -502,13 +564,13 @@ impl<'a> Guide<'a> {
             6 => 0,
             _ => last,
         };
-        let e = self.r.pick(&[Warn, Connect, Disconnect, Pay { amount: 5 }, Credit { amount: 5 }, Plan { kind: 2 }]);
+        let e = self.r.pick(&[Warn, Connect, Disconnect, Pay { amount: 5 }, Credit { amount: 5 }, Plan { kind: 2 }, Price { price: 5 }]);
         self.post(x, e);
         self.x = self.x.max(self.l.last_day());
     }
 
     fn scenario(&mut self) {
-        match self.r.weighted(&[14, 6, 8, 8, 8, 6, 10, 4, 10, 4, 6, 3]) {
+        match self.r.weighted(&[14, 6, 8, 8, 8, 6, 10, 4, 10, 4, 6, 3, 6]) {
             0 => self.cut(),
             1 => self.reconnect(),
             2 => self.plan_weather(),
@@ -523,6 +585,7 @@ impl<'a> Guide<'a> {
                 let days = self.r.pick(&[1, 1, 1, 2, 3, 5, 7]);
                 self.advance(days);
             }
+            11 => self.price_moves(),
             _ => {
                 self.now(Warn);
             }
@@ -559,7 +622,15 @@ fn strange_event(r: &mut Rng, x: u32, payments: u32) -> Event {
         2 => r.any_u32(),
         _ => r.range(0, 50_000) as u32,
     };
-    match r.below(11) {
+    let price = |r: &mut Rng| match r.below(8) {
+        0 => 0,
+        1 => MOST_PRICE + 1,
+        2 => r.pick(&[1, MOST_PRICE, u32::MAX, (1 << 17) + 7, (1 << 24) + 7]),
+        3 => r.any_u32(),
+        _ => r.range(1, 9_999) as u32,
+    };
+    match r.below(12) {
+        11 => Price { price: price(r) },
         0 => Pay { amount: amount(r) },
         1 => Reverse { number: if r.percent(70) { r.below(payments as u64 + 2) as u32 } else { r.any_u32() } },
         2 => Credit { amount: amount(r) },
@@ -625,6 +696,45 @@ pub fn payments(r: &mut Rng) -> Vec<u8> {
     g.out
 }
 
+/// Prices on about sixteen days, several on some of them, and usage on both sides of each.
+pub fn prices(r: &mut Rng) -> Vec<u8> {
+    let terms = good_terms(r);
+    let mut g = Guide::new(r, terms, LAST_DAY, 9_000);
+    if g.r.percent(60) {
+        g.x = 0;
+        for _ in 0..g.r.pick(&[1, 1, 2, 3]) {
+            g.price();
+        }
+    }
+    let target = g.r.pick(&[3, 14, 15, 16, 16, 16]);
+    let far = g.r.pick(&[1, 3, 20]);
+    while g.l.price_days().len() < target && g.x < LAST_DAY && !g.stopped {
+        let days = g.r.range(1, far) as u32;
+        g.advance(days);
+        match g.r.below(4) {
+            0 => g.price_moves(),
+            1 => g.usage(),
+            _ => {}
+        }
+        for _ in 0..g.r.pick(&[1, 1, 1, 2, 3]) {
+            g.price();
+        }
+    }
+    // The last of these days again, then others.
+    for _ in 0..g.r.range(4, 12) {
+        match g.r.below(8) {
+            0 => g.advance(1),
+            1 | 2 => g.price_moves(),
+            3 | 4 => g.usage(),
+            5 => g.strange(),
+            _ => {
+                g.price();
+            }
+        }
+    }
+    g.out
+}
+
 /// Usage over the whole account's life, for the summaries.
 pub fn year(r: &mut Rng) -> Vec<u8> {
     let terms = good_terms(r);
@@ -634,7 +744,7 @@ pub fn year(r: &mut Rng) -> Vec<u8> {
     while g.x < LAST_DAY && !g.stopped {
         g.advance(step);
         let usage = g.x - 1;
-        let wh = if rich { MOST_WH - g.r.below(3) as u32 } else { g.wh() };
+        let wh = if rich { MOST_WH - g.r.below(3) as u32 } else { g.wh(usage) };
         match g.r.below(4) {
             0 => {
                 g.now(Estimate { usage, wh });
@@ -646,6 +756,9 @@ pub fn year(r: &mut Rng) -> Vec<u8> {
             _ => {}
         }
         match g.r.below(8) {
+            4 if g.r.percent(60) => {
+                g.price();
+            }
             0 => {
                 let kind = g.r.range(1, 5) as u32;
                 let amount = if rich { MOST_AMOUNT } else { g.r.range(1, 5_000) as u32 };
@@ -660,7 +773,7 @@ pub fn year(r: &mut Rng) -> Vec<u8> {
     // Late reads, in any order.
     for _ in 0..g.r.below(200) {
         let usage = g.r.below(401) as u32;
-        let wh = g.wh();
+        let wh = g.wh(usage);
         let open = !matches!(g.l.usage(usage), Usage::Metered { .. });
         if open || g.r.percent(20) {
             let read = g.r.percent(70);
@@ -673,7 +786,8 @@ pub fn year(r: &mut Rng) -> Vec<u8> {
 /// 4,095 to 4,097 accepted events and what comes then.
 pub fn full(r: &mut Rng) -> Vec<u8> {
     let terms = good_terms(r);
-    let top = r.pick(&[7, 9, 9, 40]);
+    let priced = r.percent(35);
+    let top = if priced { 60 } else { r.pick(&[7, 9, 9, 40]) };
     let mut g = Guide::new(r, terms, top, 2_000);
     for _ in 0..20 {
         g.scenario();
@@ -688,6 +802,11 @@ pub fn full(r: &mut Rng) -> Vec<u8> {
             g.now(Pay { amount });
         }
     }
+    if priced {
+        // Full of prices too, or all but full.
+        let days = g.r.pick(&[MOST_PRICE_DAYS - 1, MOST_PRICE_DAYS, MOST_PRICE_DAYS, MOST_PRICE_DAYS]);
+        g.fill_prices(days);
+    }
     let target = g.r.pick(&[MOST_EVENTS - 2, MOST_EVENTS - 1, MOST_EVENTS]);
     let x = g.l.last_day();
     while g.l.list.len() < target && !g.stopped {
@@ -696,7 +815,11 @@ pub fn full(r: &mut Rng) -> Vec<u8> {
     g.x = x;
     g.limit -= g.r.pick(&[0, 0, 1_000, 2_500]).min(MOST_BYTES - g.out.len());
     while !g.stopped {
-        if g.r.percent(50) {
+        if g.r.percent(if priced { 40 } else { 5 }) {
+            g.price();
+            let days = g.r.pick(&[0, 0, 0, 1]);
+            g.advance(days);
+        } else if g.r.percent(50) {
             g.scenario();
         } else {
             g.strange();
@@ -826,7 +949,7 @@ fn edge(r: &mut Rng) -> Vec<u8> {
             for e in [
                 Pay { amount: 1 }, Reverse { number: 0 }, Credit { amount: 1 }, Charge { kind: 1, amount: 1 },
                 Estimate { usage: 0, wh: 1 }, Read { usage: 0, wh: 1 }, Warn, Mark { kind: 1, from: 9, to: 9 },
-                Plan { kind: 1 }, Disconnect, Connect,
+                Plan { kind: 1 }, Disconnect, Connect, Price { price: 1 },
             ] {
                 write_event(&mut terms, r.pick(&[0, 1, 1, 1]), e);
             }
@@ -853,7 +976,8 @@ pub fn random(r: &mut Rng, limit: usize) -> Vec<u8> {
         let day = if r.percent(3) { r.any_u32() } else { x };
         let amount = if wild && r.percent(30) { r.any_u32() } else { r.range(1, 9_000) as u32 };
         let kind = if wild && r.percent(30) { r.any_u32() } else { r.range(0, 6) as u32 };
-        let e = match r.below(11) {
+        let e = match r.below(12) {
+            11 => Price { price: amount.wrapping_mul(r.pick(&[1, 1, 7, 13])) },
             0 => Pay { amount },
             1 => Reverse { number: r.below(if wild { 200 } else { 12 }) as u32 },
             2 => Credit { amount },

@@ -52,7 +52,7 @@ const BEHIND: &[u8] = b"0\nday=0\ndo=warn\nday=0\ndo=warn\n";
 
 /// What stands in the memory of terms and of an event before they are read.
 const NO_TERMS: Terms = Terms { year: 2001, month: 2, day: 3, price: 4, connect: 5, cutoff: 6, share: 7 };
-const NO_EVENT: Event = Event { sort: 12, day: 401, amount: 2, number: 3, kind: 4, usage: 5, wh: 6, from: 7, to: 8 };
+const NO_EVENT: Event = Event { sort: 13, day: 401, amount: 2, number: 3, kind: 4, usage: 5, wh: 6, from: 7, to: 8 };
 
 fn alike<T: PartialEq + std::fmt::Debug>(call: &str, good: T, got: T, guards_stand: bool) -> Result<(), String> {
     if good != got {

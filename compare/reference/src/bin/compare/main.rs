@@ -49,6 +49,11 @@ day=0\ndo=pay\namount=6000\nday=0\ndo=connect\nday=2\ndo=estimate\nusage=1\nwh=3
 day=3\ndo=read\nusage=1\nwh=32000\nday=3\ndo=warn\nday=3\ndo=charge\nkind=1\namount=4700\n\
 day=3\ndo=disconnect\nday=4\ndo=disconnect\nday=5\ndo=pay\namount=4000\nday=5\ndo=connect\n";
 
+/// The figures of T-01: 30,000 Wh before and after the price moved, and a read after it of a day estimated before.
+const PRICES: &[u8] = b"open=2024-01-01\nprice=1250\nconnect=5000\ncutoff=1000\nshare=50\n\
+day=0\ndo=price\nprice=1250\nday=5\ndo=estimate\nusage=4\nwh=30000\nday=5\ndo=price\nprice=2500\n\
+day=6\ndo=read\nusage=5\nwh=30000\nday=6\ndo=read\nusage=4\nwh=32000\nday=7\ndo=price\nprice=100000\n";
+
 struct Options {
     prepay: Option<PathBuf>,
     summary: Option<PathBuf>,
@@ -433,8 +438,12 @@ fn main() {
                 }
             }
             // Wrong bytes at every place of a short text.
-            if i == 0 || r.below(1_000) < o.places {
-                let base = if i == 0 { EXAMPLE.to_vec() } else { generate::guided(&mut r, 350, 4) };
+            if i < 2 || r.below(1_000) < o.places {
+                let base = match i {
+                    0 => EXAMPLE.to_vec(),
+                    1 => PRICES.to_vec(),
+                    _ => generate::guided(&mut r, 350, 4),
+                };
                 let mut each: Vec<Vec<u8>> = Vec::new();
                 damage::at_every_place(&mut r, &base, |t| each.push(t));
                 place_texts += 1;

@@ -1,15 +1,19 @@
 //! What the texts reached, counted on the reference's side.
 
-use reference::ledger::{Book, Entry, Event, Ledger, Usage};
+use reference::ledger::{cost_at, Book, Entry, Event, Ledger, Usage, MOST_EVENTS};
 use reference::numbers::Numbers;
 use reference::rows::Record;
 use reference::text::{Run, MOST_BYTES};
 use std::collections::BTreeMap;
 use Event::*;
 
-pub const SORTS: [&str; 11] = [
-    "pay", "reverse", "credit", "charge", "estimate", "read", "warn", "mark", "plan", "disconnect", "connect",
+pub const SORTS: [&str; 12] = [
+    "pay", "reverse", "credit", "charge", "estimate", "read", "warn", "mark", "plan", "disconnect", "connect", "price",
 ];
+/// The codes are 0 to 17.
+const CODES: usize = 18;
+/// Of events: all but 1, 15 and 16; and 1 too on numbers that are no account.
+const EVENT_CODES: [usize; 16] = [0, 1, 2, 3, 4, 5, 6, 7, 8, 9, 10, 11, 12, 13, 14, 17];
 
 fn sort(e: Event) -> usize {
     match e {
@@ -24,6 +28,7 @@ fn sort(e: Event) -> usize {
         Plan { .. } => 8,
         Disconnect => 9,
         Connect => 10,
+        Price { .. } => 11,
     }
 }
 
@@ -33,10 +38,10 @@ pub struct Stats {
     pub bytes: u64,
     pub events: u64,
     /// Answers to events by code, then the terms' 1 and 15.
-    pub codes: [u64; 16],
+    pub codes: [u64; CODES],
     pub terms_refused: u64,
     pub terms_malformed: u64,
-    pub by_sort: [[u64; 16]; 11],
+    pub by_sort: [[u64; CODES]; SORTS.len()],
     pub makers: BTreeMap<&'static str, u64>,
     /// Near-limit situations, by name.
     pub edges: BTreeMap<&'static str, u64>,
@@ -120,13 +125,14 @@ impl Stats {
                 self.edge("reverse: number = count", code == 6 && l.payments().count() as u32 == number);
             }
             Estimate { usage, wh } | Read { usage, wh } => {
-                let rest = (wh as i64 * l.terms.price as i64 + 50_000) % 100_000;
-                let price = l.terms.price as i64;
+                let price = l.price_on(usage) as i64;
+                let rest = (wh as i64 * price + 50_000) % 100_000;
                 self.edge("usage: cost just reached", ok && rest < price);
                 self.edge("usage: cost just missed", ok && rest + price >= 100_000);
                 self.edge("usage: u = x", code == 7 && usage == x);
                 self.edge("usage: u = x - 1", ok && usage + 1 == x);
                 let state = if x < 400 && usage < x { l.usage(usage) } else { Usage::Blank };
+                self.look_at_prices(l, x, event, ok);
                 if matches!(event, Read { .. }) {
                     self.edge("read: on an estimate", ok && state != Usage::Blank);
                     self.edge("read: on a blank day", ok && state == Usage::Blank);
@@ -182,7 +188,59 @@ impl Stats {
                 self.edge("connect: B = connect, granted", ok && b == connect);
                 self.edge("connect: granted on a barred day", ok && l.is_barred(x));
             }
+            Price { price } => {
+                let days = l.price_days();
+                let same_day = l.list.iter().filter(|e| matches!(e.event, Price { .. }) && e.day == x).count();
+                let no_place = days.len() == 16 && !days.contains(&x);
+                self.edge("price: 0 (3)", code == 3 && price == 0);
+                self.edge("price: 1, accepted", ok && price == 1);
+                self.edge("price: 99,999, accepted", ok && price == 99_999);
+                self.edge("price: 100,000 (3)", code == 3 && price == 100_000);
+                self.edge("price: 2^32 - 1 (3)", code == 3 && price == u32::MAX);
+                self.edge("price: on day 0", ok && x == 0 && same_day == 0);
+                self.edge("price: on day 0 again", ok && x == 0 && same_day > 0);
+                self.edge("price: second of its day", ok && x > 0 && same_day == 1);
+                self.edge("price: third of its day, or later", ok && x > 0 && same_day > 1);
+                self.edge("price: fifteenth day", ok && days.len() == 14 && !days.contains(&x));
+                self.edge("price: sixteenth day", ok && days.len() == 15 && !days.contains(&x));
+                self.edge("price: seventeenth day (17)", code == 17);
+                self.edge("price: sixteenth day again", ok && days.len() == 16);
+                self.edge("price: sixteen days, and one on day 0", ok && days.len() == 16 && l.list.iter().any(|e| matches!(e.event, Price { .. }) && e.day == 0));
+                self.edge("price: 3, and no place", code == 3 && no_place);
+                self.edge("price: 3, and 4,096 events", code == 3 && l.list.len() == MOST_EVENTS);
+                self.edge("price: 3, 4,096 events, no place", code == 3 && l.list.len() == MOST_EVENTS && no_place);
+                self.edge("price: 4, a place", code == 4 && !no_place);
+                self.edge("price: 4, and no place", code == 4 && no_place);
+                self.edge("price: the last of 4,096 events", ok && l.list.len() == MOST_EVENTS - 1);
+            }
             _ => {}
+        }
+    }
+
+    /// An estimate or a read beside the moves of the price.
+    fn look_at_prices(&mut self, l: &Ledger, x: u32, event: Event, ok: bool) {
+        let (Estimate { usage, wh } | Read { usage, wh }) = event else { return };
+        let moved: Vec<(usize, u32)> =
+            l.list.iter().enumerate().filter(|(_, e)| matches!(e.event, Price { .. })).map(|(i, e)| (i, e.day)).collect();
+        if !ok || moved.is_empty() {
+            return;
+        }
+        let at = |price: u32| cost_at(price, wh);
+        let cost = at(l.price_on(usage));
+        self.edge("usage: before the first move", usage < moved[0].1);
+        self.edge("usage: the day before a move", moved.iter().any(|m| m.1 == usage + 1));
+        self.edge("usage: the day of a move", moved.iter().any(|m| m.1 == usage));
+        self.edge("usage: the day after a move", moved.iter().any(|m| m.1 + 1 == usage));
+        self.edge("usage: between two moves", moved[0].1 <= usage && moved.iter().any(|m| usage < m.1));
+        self.edge("usage: other than at the opening price", cost != at(l.terms.price));
+        self.edge("usage: other than at the posting's price", cost != at(l.price_on(x)));
+        self.edge("usage: other than a day earlier", usage > 0 && cost != at(l.price_on(usage - 1)));
+        let estimated = l.list.iter().position(|e| matches!(e.event, Estimate { usage: u, .. } if u == usage));
+        if let (Read { .. }, Some(i)) = (event, estimated) {
+            let e = l.list[i];
+            self.edge("read: a move since its estimate", moved.iter().any(|m| m.0 > i));
+            self.edge("read: moves before its day and since", moved[0].1 <= usage && moved.iter().any(|m| m.0 > i));
+            self.edge("read: other than at its estimate's posting", cost != at(l.price_on(e.day)));
         }
     }
 
@@ -194,7 +252,7 @@ impl Stats {
             println!("  {name:<14} {n:>9}");
         }
         println!("\nanswers by code (1 stands for terms, 15 for terms and events):");
-        for code in 0..16 {
+        for code in (0..CODES).filter(|&c| c != 16) {
             let n = match code {
                 1 => self.terms_refused,
                 15 => self.codes[15] + self.terms_malformed,
@@ -204,7 +262,7 @@ impl Stats {
         }
         println!("\nevents by sort and code (0 is accepted):");
         print!("  {:<10}", "");
-        let columns: Vec<usize> = (0..15).filter(|&c| c != 1).collect();
+        let columns: Vec<usize> = EVENT_CODES.into_iter().filter(|&c| c != 1).collect();
         for c in &columns {
             print!(" {c:>8}");
         }
@@ -221,7 +279,7 @@ impl Stats {
         }
         println!("\nnear the limits:");
         for (name, n) in &self.edges {
-            println!("  {name:<34} {n:>9}");
+            println!("  {name:<42} {n:>9}");
         }
     }
 }
@@ -243,13 +301,13 @@ pub struct CallStats {
     pub figures: u64,
     pub readings: u64,
     /// Answers to events (1: of no account), and rows answered 16.
-    pub codes: [u64; 17],
+    pub codes: [u64; CODES],
     /// By sort, the last one being no sort.
-    pub by_sort: [[u64; 15]; 12],
+    pub by_sort: [[u64; CODES]; SORTS.len() + 1],
     /// How often, and how many, numbers were changed by another hand; answers to events after that.
     pub sets: u64,
     pub set_cells: u64,
-    pub damaged: [u64; 15],
+    pub damaged: [u64; CODES],
     /// What such an account had, at single posts.
     pub odd: BTreeMap<&'static str, u64>,
 }
@@ -259,7 +317,7 @@ impl CallStats {
         *(if in_row { &mut self.row_events } else { &mut self.posts }) += 1;
         self.damaged[code as usize] += damaged as u64;
         self.codes[code as usize] += 1;
-        let sort = record.event().map_or(11, sort);
+        let sort = record.event().map_or(SORTS.len(), sort);
         self.by_sort[sort][code as usize] += 1;
     }
 
@@ -275,6 +333,23 @@ impl CallStats {
         odd("accepted, a total in reach of 2^60", code == 0 && t.credit.max(t.debit) >= most - 10_000_000);
         odd("accepted, `on` neither 0 nor 1", code == 0 && t.on > 1);
         let ok = code == 0;
+        let cells = &n.prices;
+        let in_order = cells.windows(2).all(|w| w[0].day < w[1].day || w[1].day == 400);
+        if let (Some(Estimate { usage, .. } | Read { usage, .. }), true) = (record.event(), ok || code > 4 || n.is_account() && code == 1) {
+            let above = cells.iter().position(|p| p.day > usage);
+            odd("usage: no cell above its day", above.is_none());
+            odd("usage: the first cell above its day", above == Some(0));
+            odd("usage: days of the prices out of order", !in_order);
+            odd("usage: day 400 before its price", above.is_some_and(|i| cells[..i].iter().any(|p| p.day == 400)));
+            odd("usage: day 400, then a day not above it", above.is_some_and(|i| cells[i].day == 400 && cells[i..].iter().any(|p| p.day <= usage)));
+            odd("usage: of all zeros", ok && cells.iter().all(|p| p.day == 0 && p.price == 0));
+            odd("usage: price 0", ok && n.price_on(usage) == 0);
+            odd("usage: price 99,999", ok && n.price_on(usage) == 99_999);
+            odd("usage: price 100,000 (1)", code == 1 && n.price_on(usage) == 100_000);
+            odd("usage: price 2^32 - 1 (1)", code == 1 && n.price_on(usage) == u32::MAX);
+            odd("usage: price of no account, 7 applies (1)", code == 1 && usage >= record.day);
+            odd("usage: price of no account, 8 applies (1)", code == 1 && usage < record.day && n.row_applies(8, record.day, record.event().unwrap()));
+        }
         match record.event() {
             Some(Reverse { number }) if ok => {
                 let p = n.payments[number as usize];
@@ -291,6 +366,15 @@ impl CallStats {
                 odd("read: an estimate above the standing ones", day.state == 1 && day.cost as u64 > t.standing);
             }
             Some(Mark { from, .. }) if ok => odd("marked: other bits there", n.marks[from as usize] > 7),
+            Some(Price { .. }) => {
+                let place = cells.iter().position(|p| p.day >= record.day);
+                odd("price: days of the prices out of order", ok && !in_order);
+                odd("price: into the first cell", ok && place == Some(0));
+                odd("price: into the last cell", ok && place == Some(cells.len() - 1));
+                odd("price: into a cell that later ones do not follow", ok && place.is_some_and(|i| cells[i + 1..].iter().any(|p| p.day <= cells[i].day && p.day != 400)));
+                odd("price: over a price that no account has", ok && place.is_some_and(|i| cells[i].price > 99_999));
+                odd("price: no place (17)", code == 17);
+            }
             Some(Plan { .. }) if ok => odd("plan of more than 2^32", n.balance() < -(1 << 32)),
             Some(Disconnect) => {
                 odd("cut", ok);
@@ -363,17 +447,17 @@ impl CallStats {
         }
         println!("single posts on such accounts:");
         for (name, n) in &self.odd {
-            println!("  {name:<42} {n:>9}");
+            println!("  {name:<50} {n:>9}");
         }
         println!("\nrecords by sort and code (0 is accepted):");
         print!("  {:<10}", "");
-        for c in 0..15 {
+        for c in EVENT_CODES {
             print!(" {c:>8}");
         }
         println!();
         for (i, row) in self.by_sort.iter().enumerate() {
             print!("  {:<10}", SORTS.get(i).unwrap_or(&"no sort"));
-            for &n in row {
+            for n in EVENT_CODES.map(|c| row[c]) {
                 match n {
                     0 => print!(" {:>8}", "."),
                     n => print!(" {n:>8}"),
