@@ -39,11 +39,11 @@ static const prepay_event events[] = {
 };
 enum { EVENTS = sizeof events / sizeof events[0] };
 
-/* A price for usage days from day 5 on (document 02, T-01), and a read before and after. */
-static const prepay_event moved[] = {
-    {.sort = PREPAY_PRICE, .day = 5, .amount = 2500}, /* 25 cents per kWh */
-    {.sort = PREPAY_READ, .day = 6, .usage = 4, .wh = 30000}, /* at the opening price */
-    {.sort = PREPAY_READ, .day = 6, .usage = 5, .wh = 30000},
+/* A new price, in hundredths of a cent, goes in `.amount`; it is in force for usage days from its own day on (document 02, T-01). */
+static const prepay_event priced[] = {
+    {.sort = PREPAY_PRICE, .day = 5, .amount = 2500},
+    {.sort = PREPAY_READ, .day = 6, .usage = 4, .wh = 30000}, /* 375 cents, at the opening price */
+    {.sort = PREPAY_READ, .day = 6, .usage = 5, .wh = 30000}, /* 750 */
 };
 
 static int wrong;
@@ -197,8 +197,8 @@ int main(int argc, char **argv) {
     puts("# month 0");
     print_month(0);
     puts("# a new price");
-    for (unsigned i = 0; i < sizeof moved / sizeof moved[0]; i++)
-        print_answer(EVENTS + i + 1, prepay_post(&account, &moved[i]));
+    for (unsigned i = 0; i < sizeof priced / sizeof priced[0]; i++)
+        print_answer(EVENTS + i + 1, prepay_post(&account, &priced[i]));
     print_last();
     puts(wrong ? "# WRONG" : "# as it should be");
     return wrong;

@@ -139,7 +139,7 @@ static void opening(void) {
     fresh.prices[0].price = terms.price;
     for (size_t i = 1; i < PREPAY_PRICE_CELLS; i++)
         fresh.prices[i].day = 400;
-    expect(memcmp(&one.account, &fresh, sizeof fresh) == 0, "a fresh account is its terms, the opening price, and 0 in every other field");
+    expect(memcmp(&one.account, &fresh, sizeof fresh) == 0, "a fresh account is its terms, the opening price, no other, and 0 in every other field");
 }
 
 /* The number after a key in a line, held to a field. */
@@ -372,13 +372,13 @@ static void prices(void) {
         }
     }
     /* Day 5, then days 6 to 20: the sixteen later days. */
-    prepay_price cells[] = {{.day = 0, .price = 1250}, {.day = 5, .price = 2500}, [PREPAY_PRICE_CELLS - 1] = {0}};
+    prepay_price cells[PREPAY_PRICE_CELLS] = {{.day = 0, .price = 1250}, {.day = 5, .price = 2500}};
     for (uint32_t i = 2; i <= LATER; i++) {
         const prepay_event next = {.sort = PREPAY_PRICE, .day = 4 + i, .amount = 2500 + i};
         expect(prepay_post(&account, &next).code == PREPAY_OK, "prices of sixteen later days are accepted");
         cells[i] = (prepay_price){.day = next.day, .price = next.amount};
     }
-    expect(sizeof account.prices == sizeof cells && memcmp(account.prices, cells, sizeof cells) == 0, "the cells of the prices");
+    expect(memcmp(account.prices, cells, sizeof cells) == 0, "the cells of the prices");
     const prepay_event other = {.sort = PREPAY_PRICE, .day = 21, .amount = 1}, again = {.sort = PREPAY_PRICE, .day = 20, .amount = 99999};
     before = account;
     expect(prepay_post(&account, &other).code == PREPAY_PRICES_FULL, "a seventeenth is not");

@@ -64,7 +64,8 @@ head -c 200 crates/prepay/stdin >"$work/cut"
 sed 's/^share=.*/share=51/' crates/prepay/stdin >"$work/refused"
 sed 's/^share=.*/share=051/' crates/prepay/stdin >"$work/malformed"
 head -c 65537 /dev/zero | cat crates/prepay/stdin - >"$work/long"
-printf '%s\n' day=5 do=price price=2500 day=6 do=estimate usage=4 wh=30000 day=6 do=read usage=5 wh=30000 | cat crates/prepay/stdin - >"$work/priced"
+printf '%s\n' day=5 do=price price=2500 day=6 do=estimate usage=4 wh=30000 day=6 do=read usage=5 wh=30000 |
+    cat crates/prepay/stdin - >"$work/priced"
 prepay=crates/prepay/out/prepay summary=crates/summary/out/summary
 if [[ -x $prepay && -x $summary ]]; then
     for text in crates/prepay/stdin crates/summary/stdin "$work"/{cut,refused,malformed,long,priced} /dev/null; do
