@@ -1,47 +1,49 @@
 -- The account identity: B and R are what the sums over L make them. About the ledger alone.
 -- Assumes nothing.
 use mathlib.Core.Path.{◌≡◌, refl, sym, ap, ◌∙◌}
-use mathlib.Core.Bool.{Bool, true, false, cond, not, ◌&&◌, ◌||◌, or-true, and-false, true≢false}
+use mathlib.Core.Bool.{Bool, true, false, cond, not, ◌&&◌, ◌||◌, or-true, and-true, true≢false}
 use mathlib.Core.List.{[], ◌∷◌}
 use Prim.Native.Nat.{ℕ, ◌+◌, ◌-◌, ◌≤◌, ◌<◌}
 use native.Mathlib.Nat.{mul-le-mul_left}
 use native.Mathlib.Omega.{arith}
-use lib.Dec.{leb, eqb}
+use lib.Dec.{ltb, leb, eqb}
 use lib.IntN.{pos, ◌+ℤ◌, ◌-ℤ◌, +ℤ_idr}
-use borrow.Author.Tests.{ltb-true, leb-true, leb-false, eqb-true, not-true, not-false}
+use borrow.Author.Tests.{ltb-true, ltb-false, leb-false, eqb-true, not-true, not-false}
 use Rattle.std.proofs.lemmas.Bool.{and_parts, or_parts}
+use Rattle.std.proofs.lemmas.Bool.Decides.{nat_tests}
 use Rattle.tariff.specs.Tariff.{cost_of}
 use Rattle.terms.specs.declared.Terms.{Terms}
-use Rattle.terms.specs.Terms.{max_share, valid_terms}
+use Rattle.terms.specs.Terms.{max_share, max_price, valid_terms}
 use Rattle.ledger.specs.declared.Event.{Event}
-use Rattle.ledger.specs.Event.{is_pay, is_reverse, is_credit, is_charge, is_estimate, is_read, is_plan, is_disconnect, is_connect}
-use Rattle.ledger.specs.Entries.{usage_cost, Entry, Entries, any, count, sum, sum_of, amount_of, find, or_zero, paid_amount, paid_part, last_day, payment_count, has_number, payment, reversed, price_on, UsageDay, read_on, estimate_on, wh_on, usage_day, is_blank, is_metered, estimate_cost_of, is_kept}
+use Rattle.ledger.specs.Event.{is_pay, is_reverse, is_credit, is_charge, is_estimate, is_read, is_plan, is_disconnect, is_connect, is_price, in_limits}
+use Rattle.ledger.specs.Entries.{usage_cost, Entry, Entries, any, count, sum, sum_of, amount_of, find, or_zero, paid_amount, paid_part, last_day, payment_count, has_number, payment, reversed, price_on, priced, price_days, UsageDay, read_on, estimate_on, wh_on, usage_day, is_blank, is_metered, estimate_cost_of, is_kept}
 use Rattle.ledger.specs.Sums.{kept_total, credit_total, charge_total, read_cost, settled, standing_cost}
 use Rattle.ledger.specs.Rules.{Ledger, may_defer, refusals}
 use Rattle.ledger.specs.Ledger.{opening, Effect, plan_part, pay_effect, reverse_effect, balance_effect, service_effect, estimate_effect, read_effect, deferred, plan_effect, effect_of, joined, accepts, ledger_step}
 use Rattle.ledger.proofs.Cases.{decide, other}
 use Rattle.ledger.proofs.Money.{diff, diff-eq, diff-add, diff-sub, diff-gap, diff-zero, diff-high, by_sign}
 use Rattle.ledger.proofs.Accepted.{Accepted, accepted-by}
+use Rattle.ledger.proofs.Prices.{price-same, price-stays, price-new, price-most, days-same, days-opening, days-new}
 use Rattle.ledger.specs.Invariant.{All, UsedBefore, Invariant}
 use Rattle.ledger.proofs.Weights.{all_map, sum_same, take_out, one-weighs, given-once}
 
-pub invariant-opening : (t : Terms) → t.share ≤ max_share → Invariant t opening
-unfolding kept_total credit_total charge_total read_cost standing_cost sum reversed any payment find count
-invariant-opening t h = record {
+pub invariant-opening : (t : Terms) → t.share ≤ max_share → t.price ≤ max_price → Invariant t opening
+unfolding kept_total credit_total charge_total read_cost standing_cost sum reversed any payment find count price_on price_days
+invariant-opening t h p = record {
   identity = refl;
   share = h;
   numbers = λ n r. absurd (true≢false (sym r));
   parts = λ n. omega arith;
   once = λ u. omega arith;
   past = tt;
+  prices = λ u. p;
+  days = omega arith;
 }
 
--- "`share`: 0 to 50"
+-- "`share`: 0 to 50"; "`price`: 1 to 99,999"
 pub invariant-valid : (t : Terms) → valid_terms t ≡ true → Invariant t opening
 unfolding valid_terms
-invariant-valid t v = invariant-opening t (decide (leb t.share 50)
-    (λ y. leb-true t.share 50 y)
-    (λ f. absurd (true≢false (sym (simp (f, and-false) at v)))))
+invariant-valid t v = invariant-opening t (grind (arith, nat_tests)) (grind (arith, nat_tests))
 
 pub settled_is : (t : Terms) (l : Ledger) → Invariant t l → l.balance -ℤ pos l.plan +ℤ pos (standing_cost t l.list) ≡ settled t l.list
 unfolding settled
@@ -65,11 +67,6 @@ module _ (t : Terms) (l : Entries) (u : ℕ) where
   pub estimate-cost-is : any (read_on u) l ≡ false → estimate_cost_of (usage_day t l u) ≡ cond (any (estimate_on u) l) (cost_of (wh_on l estimate_on u) (price_on t l u)) 0
   unfolding usage_day
   estimate-cost-is r = decide (any (estimate_on u) l) (λ e. simp (r, e)) (λ e. simp (r, e))
-
--- The price of a day before the newest event's stays.
-price-stays : (t : Terms) (x : Entry) (l : Entries) (u : ℕ) → u < x.event.day → price_on t (x ∷ l) u ≡ price_on t l u
-unfolding price_on
-price-stays t x l u h = refl
 
 -- ---- what one more entry does to the sums
 
@@ -324,6 +321,24 @@ module _ (t : Terms) (l : Ledger) (e : Event) (s : Invariant t l) (a : Accepted 
       simp y (omega (arith, none-counts (estimate_on u) l.list (rw (eqb-true e.usage u b.1) at (blank-before t l e p s a b.0).1))))
       (λ f. simp f (omega (arith, s.once u)))
 
+  prices-then : (p u : ℕ) → price_on t (entry_of e p ∷ l.list) u ≤ 99999
+  unfolding in_limits
+  prices-then p u = decide (is_price e)
+      (λ y. let k : e.sort ≡ 12 = eqb-true e.sort 12 y in
+      let most : e.amount ≤ 99999 = price-most e k a.limits in
+      rw (price-new t (entry_of e p) l.list u y) (decide (leb e.day u) (λ b. simp b most) (λ b. simp b (s.prices u))))
+      (λ f. rw (price-same t (entry_of e p) l.list u f) (s.prices u))
+
+  days-then : (p : ℕ) → price_days (entry_of e p ∷ l.list) ≤ 16
+  unfolding refusals
+  days-then p = decide (is_price e)
+      (λ y. decide (ltb 0 e.day)
+      (λ d. rw (days-new (entry_of e p) l.list y (ltb-true 0 e.day d)) (decide (priced l.list e.day)
+      (λ q. simp q (omega (arith, s.days)))
+      (λ q. simp q (omega (arith, leb-false 16 (price_days l.list) (simp (y, q, and-true) at (a.rule 17)))))))
+      (λ d. rw (days-opening (entry_of e p) l.list (omega (arith, ltb-false 0 e.day d))) s.days))
+      (λ f. rw (days-same (entry_of e p) l.list f) s.days)
+
   invariant-then : (m : Effect) → Fits t l e m → Invariant t (joined l e m)
   unfolding last_day
   invariant-then m f = record {
@@ -333,6 +348,8 @@ module _ (t : Terms) (l : Ledger) (e : Event) (s : Invariant t l) (a : Accepted 
     parts = λ n. parts_then m.part n f.least;
     once = once-then m.part;
     past = (used-before t l e m.part s a, past-then t l e m.part s a);
+    prices = prices-then m.part;
+    days = days-then m.part;
   }
 
 pub invariant-step : (t : Terms) (l : Ledger) (e : Event) → Invariant t l → Invariant t (ledger_step t l e).ledger

@@ -1,9 +1,11 @@
 pub mod Cases
 pub mod Money
 pub mod Accepted
+pub mod Prices
 pub mod Weights
 pub mod Back
 pub mod Identity
 pub mod Disconnect
 pub mod Standing
 pub mod Rows
+pub mod PriceLaws

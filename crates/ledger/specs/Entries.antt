@@ -1,4 +1,4 @@
--- The list L of accepted events and what is read off the terms and L (document 01, "The ledger of demand 3").
+-- The list L of accepted events and what is read off the terms and L (document 01, "The ledger of demand 3"; document 02, T-01).
 use Rattle.std.specs.Prelude.{ℕ, suc, ◌+◌, Bool, true, false, cond, not, ◌&&◌, ◌||◌, List, [], ◌∷◌, ltb, leb, eqb}
 use Rattle.std.proofs.Math.Option.{Option, none, some}
 use Rattle.calendar.specs.Calendar.{date_on, saturday, weekday_of, warning_days}
@@ -6,7 +6,7 @@ use Rattle.calendar.specs.Days.{any_day, count_days}
 use Rattle.tariff.specs.Tariff.{cost_of}
 use Rattle.terms.specs.declared.Terms.{Terms}
 use Rattle.ledger.specs.declared.Event.{Event}
-use Rattle.ledger.specs.Event.{is_pay, is_reverse, is_estimate, is_read, is_warn, is_mark}
+use Rattle.ledger.specs.Event.{is_pay, is_reverse, is_estimate, is_read, is_warn, is_mark, is_price, posted_price}
 
 -- "the list L of the events it accepted, each payment with its two parts": of a payment, `part` went to the plan and the rest
 -- of its amount to B; of any other event `part` is 0.
@@ -90,11 +90,25 @@ is_reversed l x before = is_pay x.event && reversed l (payment_count before)
 unfoldable pub warned : Entries → ℕ → Bool
 warned l x = any (λ (e : Event). is_warn e && (leb (e.day + 1) x && leb x (e.day + warning_days))) l
 
--- The price in force on usage day u: the opening price on every day.
+-- The price in force on usage day u: "in force for usage days from its own day on; a second one on the same day replaces the first", so that of
+-- the newest whose day is at most u. "The opening price counts as day 0's."
 unfoldable pub price_on : Terms → Entries → ℕ → ℕ
-price_on t l u = t.price
+price_on t [] u = t.price
+price_on t (x ∷ l) u = cond (is_price x.event && leb x.event.day u) (posted_price x.event) (price_on t l u)
 
--- the cost of an event's Wh on its usage day
+-- whether day d is one of the "days after day 0" that "have a price"
+unfoldable pub priced : Entries → ℕ → Bool
+priced l d = ltb 0 d && any (λ (e : Event). is_price e && eqb e.day d) l
+
+-- a price that is the first of its day, which comes after day 0
+abbrev pub opens_day : Entry → Entries → Bool
+opens_day x before = is_price x.event && (ltb 0 x.event.day && not (priced before x.event.day))
+
+-- how many such days there are: each has one first price
+unfoldable pub price_days : Entries → ℕ
+price_days l = sum_of opens_day (λ (x : Entry). 1) l
+
+-- "A usage day's cost is taken at the price in force on that usage day.": of an event's Wh
 abbrev pub usage_cost : Terms → Entries → Event → ℕ
 usage_cost t l e = cost_of e.wh (price_on t l e.usage)
 

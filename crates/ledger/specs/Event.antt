@@ -1,7 +1,7 @@
--- The events and the limits of their fields (document 01, "Events"). The bold words are numbered in the paper's order.
+-- The events and the limits of their fields (document 01, "Events"; document 02, T-01). The bold words are numbered in the papers' order.
 use Rattle.std.specs.Prelude.{ℕ, Bool, cond, ◌&&◌, ◌||◌, leb, eqb}
 use Rattle.calendar.specs.Calendar.{final_day}
-use Rattle.terms.specs.Terms.{within}
+use Rattle.terms.specs.Terms.{within, max_price}
 use Rattle.ledger.specs.declared.Event.{Event}
 
 abbrev pub is_pay : Event → Bool
@@ -37,9 +37,12 @@ is_disconnect e = eqb e.sort 10
 abbrev pub is_connect : Event → Bool
 is_connect e = eqb e.sort 11
 
+abbrev pub is_price : Event → Bool
+is_price e = eqb e.sort 12
+
 -- the last sort's number
 abbrev pub sort_count : ℕ
-sort_count = 11
+sort_count = 12
 
 -- "amount (1 to 10,000,000)": the largest, in cents
 abbrev pub max_amount : ℕ
@@ -56,6 +59,13 @@ amount_in_limits e = within 1 max_amount e.amount
 -- "wh (0 to 9,999,999)"
 abbrev pub wh_in_limits : Event → Bool
 wh_in_limits e = leb e.wh max_wh
+
+-- "Add an event `price` with one field `price`, from 1 to 99,999": its number stands in the record's `amount`.
+abbrev pub posted_price : Event → ℕ
+posted_price e = e.amount
+
+abbrev pub price_in_limits : Event → Bool
+price_in_limits e = within 1 max_price (posted_price e)
 
 -- "with x ≤ from ≤ to ≤ 399"
 abbrev pub mark_days_in_limits : Event → Bool
@@ -76,7 +86,8 @@ is_mark_kind k = within 1 3 k
 abbrev pub is_plan_kind : ℕ → Bool
 is_plan_kind k = within 1 2 k
 
--- What code 3 asks of an event: "event sort, amount, wh, kind, mark days". A reverse's number and a usage day have no limit under 3.
+-- What code 3 asks of an event: "event sort, amount, wh, kind, mark days"; "Another price is 3." A reverse's number and a usage day have no limit
+-- under 3.
 unfoldable pub in_limits : Event → Bool
 in_limits e =
     cond (is_pay e || is_credit e) (amount_in_limits e)
@@ -84,4 +95,5 @@ in_limits e =
     (cond (is_estimate e || is_read e) (wh_in_limits e)
     (cond (is_mark e) (is_mark_kind e.kind && mark_days_in_limits e)
     (cond (is_plan e) (is_plan_kind e.kind)
-    (is_reverse e || is_warn e || is_disconnect e || is_connect e)))))
+    (cond (is_price e) (price_in_limits e)
+    (is_reverse e || is_warn e || is_disconnect e || is_connect e))))))

@@ -1,5 +1,5 @@
--- The figures that document 01 marks (P), "Either side of the line": a row each, "day 0 being a Monday".
-use Rattle.std.specs.Prelude.{ℕ, Bool, true, false, List, [], ◌∷◌, ℤ, pos, neg_ℤ}
+-- The figures that document 01 marks (P), "Either side of the line", and those of document 02: a row each, "day 0 being a Monday".
+use Rattle.std.specs.Prelude.{ℕ, zero, suc, Bool, true, false, List, [], ◌∷◌, ◌++◌, ℤ, pos, neg_ℤ}
 use Rattle.calendar.specs.Calendar.{date}
 use Rattle.terms.specs.declared.Terms.{Terms}
 use Rattle.ledger.specs.declared.Event.{Event}
@@ -63,6 +63,14 @@ disconnect x = event 10 x 0 0 0 0 0 0
 abbrev pub connect : ℕ → Event
 connect x = event 11 x 0 0 0 0 0 0
 
+abbrev pub price : ℕ → ℕ → Event
+price x p = event 12 x p 0 0 0 0 0
+
+-- a price on each of days 1 to n
+abbrev pub daily_prices : ℕ → List Event
+daily_prices zero = []
+daily_prices (suc n) = daily_prices n ++ (price (suc n) 2500 ∷ [])
+
 -- "terms `2024-01-01`, 1250, 5000, 1000, 50 (day 0 is a Monday)"
 abbrev pub terms : Terms
 terms = record { opened = date 2024 1 1; price = 1250; connect = 5000; cutoff = 1000; share = 50 }
@@ -100,4 +108,25 @@ figures =
     ∷ figure (pay 0 5000 ∷ connect 0 ∷ charge 0 4001 ∷ warn 3 ∷ warn 4 ∷ disconnect 4 ∷ []) 0 0 (pos 999) 0 false
     -- "counting R as debt against the cutoff"
     ∷ figure (charge 0 6000 ∷ plan 0 2 ∷ connect 0 ∷ warn 3 ∷ disconnect 4 ∷ []) 12 0 (pos 5000) 11000 true
+    -- T-01: "from 1 to 99,999"; "Another price is 3."
+    ∷ figure (price 0 0 ∷ []) 3 0 (pos 0) 0 false
+    ∷ figure (price 0 1 ∷ []) 0 0 (pos 0) 0 false
+    ∷ figure (price 0 99999 ∷ []) 0 0 (pos 0) 0 false
+    ∷ figure (price 0 100000 ∷ []) 3 0 (pos 0) 0 false
+    -- "in force for usage days from its own day on"; "A usage day's cost is taken at the price in force on that usage day", whenever it is posted
+    ∷ figure (price 5 2500 ∷ estimate 6 4 30000 ∷ []) 0 375 (neg_ℤ (pos 375)) 0 false
+    ∷ figure (price 5 2500 ∷ estimate 6 5 30000 ∷ []) 0 750 (neg_ℤ (pos 750)) 0 false
+    ∷ figure (price 5 2500 ∷ price 8 9999 ∷ read 9 4 30000 ∷ []) 0 375 (neg_ℤ (pos 375)) 0 false
+    ∷ figure (price 5 2500 ∷ price 8 9999 ∷ read 9 7 30000 ∷ []) 0 750 (neg_ℤ (pos 750)) 0 false
+    -- "The settled amount reads each read at its day's price"
+    ∷ figure (estimate 5 4 30000 ∷ price 5 2500 ∷ read 6 4 32000 ∷ []) 0 400 (neg_ℤ (pos 400)) 0 false
+    -- "a second one on the same day replaces the first"
+    ∷ figure (price 5 2500 ∷ price 5 9999 ∷ price 5 2500 ∷ read 6 5 30000 ∷ []) 0 750 (neg_ℤ (pos 750)) 0 false
+    -- "The opening price counts as day 0's."
+    ∷ figure (price 0 9999 ∷ price 0 2500 ∷ read 1 0 30000 ∷ []) 0 750 (neg_ℤ (pos 750)) 0 false
+    -- "17, sixteen days after day 0 have a price already and this day is not among them"
+    ∷ figure (price 0 2500 ∷ daily_prices 16) 0 0 (pos 0) 0 false
+    ∷ figure (daily_prices 17) 17 0 (pos 0) 0 false
+    ∷ figure (daily_prices 16 ++ (price 16 1 ∷ [])) 0 0 (pos 0) 0 false
+    ∷ figure (daily_prices 16 ++ (price 17 0 ∷ [])) 3 0 (pos 0) 0 false
     ∷ []

@@ -1,9 +1,10 @@
 -- What holds of the ledger from its opening on, whatever events it is fed.
 use Rattle.std.specs.Prelude.{ℕ, ◌+◌, ◌≤◌, ◌<◌, ◌≡◌, true, ◌||◌, [], ◌∷◌, pos, ◌-ℤ◌}
-use Rattle.terms.specs.Terms.{max_share}
+use Rattle.tariff.specs.Prices.{max_price_days}
+use Rattle.terms.specs.Terms.{max_share, max_price}
 use Rattle.terms.specs.declared.Terms.{Terms}
 use Rattle.ledger.specs.Event.{is_estimate, is_read}
-use Rattle.ledger.specs.Entries.{Entry, Entries, count, last_day, payment_count, paid_amount, paid_part, reversed, estimate_on}
+use Rattle.ledger.specs.Entries.{Entry, Entries, count, last_day, payment_count, paid_amount, paid_part, reversed, estimate_on, price_on, price_days}
 use Rattle.ledger.specs.Sums.{kept_total, credit_total, charge_total, read_cost, standing_cost}
 use Rattle.ledger.specs.Rules.{Ledger}
 
@@ -30,3 +31,7 @@ pub record Invariant (t : Terms) (l : Ledger) : Type 0 where
   pub once : (u : ℕ) → count (estimate_on u) l.list ≤ 1
   -- "u ≥ x" is refused: usage days are before the last day
   pub past : All (UsedBefore (last_day l.list)) l.list
+  -- "from 1 to 99,999": no price in force is above
+  pub prices : (u : ℕ) → price_on t l.list u ≤ max_price
+  -- at most "sixteen days after day 0 have a price"
+  pub days : price_days l.list ≤ max_price_days

@@ -65,7 +65,7 @@ unfoldable pub plan_effect : Terms → Ledger → Effect
 plan_effect t l = effect (deferred t l) 0 (pos t.connect) (l.plan + deferred t l) l.on
 
 -- "A credit raises B by its whole amount, a charge lowers it by its own; R stays."; "Service is then off."; "Service is then on."
--- A warn and a mark change neither B, R nor service. "the value 0 unless named here"
+-- A warn, a mark and a price change neither B, R nor service. "the value 0 unless named here"
 unfoldable pub effect_of : Terms → Ledger → Event → Effect
 effect_of t l e =
     cond (is_pay e) (pay_effect t l e)

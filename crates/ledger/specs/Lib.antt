@@ -8,3 +8,4 @@ pub mod Sums
 pub mod Invariant
 pub mod Months
 pub mod Figures
+pub mod PriceLaws

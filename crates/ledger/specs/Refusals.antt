@@ -1,4 +1,4 @@
--- The refusals as the code has them, and the paper's number and value of an answer (document 01, "What comes back on a refusal").
+-- The refusals as the code has them, and the paper's number and value of an answer (document 01, "What comes back on a refusal"; document 02).
 use Rattle.std.specs.Prelude.{ℕ, Bool, true, false, Option, Some, None, Result, Ok, Err}
 use Rattle.ledger.specs.declared.Refusal.{Refusal}
 use Rattle.ledger.specs.declared.Refusal.TheVariants as refusal
@@ -11,7 +11,8 @@ use Rattle.ledger.specs.Months.{no_summary}
 -- outside limits"; 4: "4,096 events accepted already"; 5: "a pay when 128 payments are accepted already"; 6: "no payment of that number, or
 -- reversed already"; 7: "u ≥ x"; 8: "estimate on a day not blank, or read on a metered day"; 9: "the plan kind's condition fails"; 10: "R > 0
 -- when a plan is posted"; 11: "disconnect while off, connect while on"; 12: "disconnect with B ≥ cutoff, connect with B < `connect`"; 13: "no
--- warning one to seven days old"; 14: "day barred"; 15: "text breaks its form, or exceeds 65,536 bytes"; 16: "lent buffer shorter than the row"
+-- warning one to seven days old"; 14: "day barred"; 15: "text breaks its form, or exceeds 65,536 bytes"; 16: "lent buffer shorter than the row";
+-- 17: "sixteen days after day 0 have a price already and this day is not among them"
 abbrev pub refusal_code : Refusal → ℕ
 refusal_code refusal.Terms = 1
 refusal_code refusal.Day = 2
@@ -29,6 +30,7 @@ refusal_code refusal.Warning = 13
 refusal_code refusal.Barred = 14
 refusal_code refusal.Form = 15
 refusal_code refusal.Buffer = 16
+refusal_code refusal.Prices = 17
 
 -- "A granted or accepted event has code 0."
 abbrev pub code_of : {A : Type 0} → Result A Refusal → ℕ

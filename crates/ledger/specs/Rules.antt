@@ -1,11 +1,12 @@
--- The refusals (document 01, "What comes back on a refusal").
+-- The refusals (document 01, "What comes back on a refusal"; document 02, T-01).
 use Rattle.std.specs.Prelude.{ℕ, ◌≡◌, Bool, true, false, cond, not, ◌&&◌, ◌||◌, List, [], ◌∷◌, length, ltb, leb, eqb, ℤ, pos, neg_ℤ}
 use Rattle.std.specs.Int.Signed.{lt_z, le_z}
 use Rattle.calendar.specs.Calendar.{final_day}
+use Rattle.tariff.specs.Prices.{max_price_days}
 use Rattle.terms.specs.declared.Terms.{Terms}
 use Rattle.ledger.specs.declared.Event.{Event}
-use Rattle.ledger.specs.Event.{is_pay, is_reverse, is_estimate, is_read, is_plan, is_disconnect, is_connect, in_limits}
-use Rattle.ledger.specs.Entries.{Entries, last_day, payment_count, reversed, warned, usage_day, is_blank, is_metered, barred, weather_recent}
+use Rattle.ledger.specs.Event.{is_pay, is_reverse, is_estimate, is_read, is_plan, is_disconnect, is_connect, is_price, in_limits}
+use Rattle.ledger.specs.Entries.{Entries, last_day, payment_count, reversed, warned, priced, price_days, usage_day, is_blank, is_metered, barred, weather_recent}
 
 -- "It holds the list L of the events it accepted, each payment with its two parts, and B, R and service."
 pub record Ledger : Type 0 where
@@ -54,8 +55,9 @@ MayCut t l e =
     × (barred t l.list e.day ≡ false)
 
 -- The table, each number with when it applies. "Several apply: the lowest number of 1 to 14": its order is the rule. The numbers ascend, so
--- the first that applies is the lowest. 1 is of the terms: "no account made", so the table starts at 2.
--- 6: "Once per payment". 12: "R is not counted." 12 and 14: a connect is "granted if service is off and B ≥ `connect`, on any day".
+-- the first that applies is the lowest. 1 is of the terms: "no account made", so the table starts at 2. 17 is "checked after 4".
+-- 6: "Once per payment". 12: "R is not counted." 12 and 14: a connect is "granted if service is off and B ≥ `connect`, on any day". 17:
+-- "sixteen days after day 0 have a price already and this day is not among them".
 unfoldable pub refusals : Terms → Ledger → Event → List Rule
 refusals t l e =
     (2, day_refused l e)
@@ -71,6 +73,7 @@ refusals t l e =
     ∷ (12, (is_disconnect e && le_z (pos t.cutoff) l.balance) || (is_connect e && lt_z l.balance (pos t.connect)))
     ∷ (13, is_disconnect e && not (warned l.list e.day))
     ∷ (14, is_disconnect e && barred t l.list e.day)
+    ∷ (17, is_price e && (leb max_price_days (price_days l.list) && not (priced l.list e.day)))
     ∷ []
 
 -- the number of the first rule that applies; 0 where none does

@@ -4,11 +4,15 @@
 // specs/Figures.antt.
 #![tactic(auto)]
 
-ghost use Rattle.std.specs.Prelude.{◌≡◌, map};
+ghost use Rattle.std.specs.Prelude.{◌≡◌, true, map};
+ghost use Rattle.terms.specs.Terms.{valid_terms};
+ghost use Rattle.terms.specs.declared.Terms.{Terms};
 ghost use Rattle.ledger.specs.Figures.{Figure, shown, figures};
+ghost use Rattle.ledger.specs.PriceLaws.{PriceLaws};
 ghost use Rattle.ledger.specs.Refusals.{refusal_code, code_of, answer_record, summary_record};
 
-// Why terms, an event, a month, a text or a row is refused: the table "What comes back on a refusal", in its order (specs/Refusals.antt).
+// Why terms, an event, a month, a text or a row is refused: the table "What comes back on a refusal", in its order, then document 02's numbers
+// (specs/Refusals.antt).
 #[derive(Clone, Copy, Debug, PartialEq, Eq)]
 pub enum Refusal {
     Terms = 1,
@@ -27,6 +31,7 @@ pub enum Refusal {
     Barred,
     Form,
     Buffer,
+    Prices,
 }
 
 // The table's number, which `as` gives of an enum.
@@ -48,7 +53,7 @@ pub fn code<T: Drop>(answer: Result<T, Refusal>) -> u8
     }
 }
 
-// An event as it is posted. Only the fields that its sort names are judged (specs/Event.antt). The sort and the kind are numbers: C hands in any, and
+// An event as it is posted. Only the fields that its sort names are judged (specs/Event.antt); a price is its `amount`. The sort and the kind are numbers: C hands in any, and
 // document 01 names a match on the number with a range arm.
 #[repr(C)]
 #[derive(Clone, Copy, Debug, PartialEq, Eq, Default)]
@@ -167,4 +172,9 @@ impl From<Result<Figures, Refusal>> for Summary {
 // The figures marked (P): what the ledger shows of each row is what the paper says.
 pub fn figures_hold()
     ensures { map shown figures ≡ map (λ (f : Figure). f.expected) figures }
+{}
+
+// What holds of the prices of every ledger. The function does nothing; its promise is the theorem (specs/PriceLaws.antt).
+pub fn price_laws()
+    ensures { (t : Terms) → valid_terms t ≡ true → PriceLaws t }
 {}

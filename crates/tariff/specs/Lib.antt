@@ -1,1 +1,2 @@
 pub mod Tariff
+pub mod Prices

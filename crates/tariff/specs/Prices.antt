@@ -1,0 +1,49 @@
+-- The prices of an account by day (document 02, T-01), in cells: day 0's, then those of later days, in order.
+use Rattle.std.specs.Prelude.{ℕ, zero, suc, ◌+◌, ◌≤◌, ◌≡◌, Bool, false, cond, ◌||◌, List, [], ◌∷◌, replicate, ltb, leb, eqb}
+use Rattle.std.specs.List.{prefix_len}
+use Rattle.calendar.specs.Calendar.{day_count}
+use Rattle.tariff.specs.declared.DayPrice.{DayPrice}
+
+-- "sixteen days after day 0 have a price already": so many may
+abbrev pub max_price_days : ℕ
+max_price_days = 16
+
+abbrev pub price_cells : ℕ
+price_cells = max_price_days + 1
+
+abbrev pub day_price : ℕ → ℕ → DayPrice
+day_price day price = record { day = day; price = price }
+
+-- a cell that is not taken: its day is none of the account's
+abbrev pub no_price : DayPrice
+no_price = day_price day_count 0
+
+-- "The opening price counts as day 0's."
+abbrev pub opening_prices : ℕ → List DayPrice
+opening_prices opening = day_price 0 opening ∷ replicate max_price_days no_price
+
+-- The price in force on day u: that of the last cell before the first one whose day is above u, the opening price where that is the first.
+unfoldable pub in_force : ℕ → List DayPrice → ℕ → ℕ
+in_force opening [] u = opening
+in_force opening (c ∷ cells) u = cond (leb c.day u) (in_force c.price cells u) opening
+
+-- The place of a price posted on day x: the first cell whose day is not before x, so the day's own or one that is not taken; past the cells
+-- where there is none.
+abbrev pub price_place : List DayPrice → ℕ → ℕ
+price_place cells x = prefix_len (λ (c : DayPrice). ltb c.day x) cells
+
+-- whether day d has a cell
+unfoldable pub has_price : List DayPrice → ℕ → Bool
+has_price [] d = false
+has_price (c ∷ cells) d = eqb c.day d || has_price cells d
+
+-- no cell is taken
+abbrev pub NoneTaken : List DayPrice → Type 0
+NoneTaken [] = Unit {0}
+NoneTaken (c ∷ cells) = (c.day ≡ day_count) × NoneTaken cells
+
+-- The first n cells are taken, by days that ascend from `least` or later up to `last` or earlier, and no other is.
+abbrev pub Taken : ℕ → ℕ → ℕ → List DayPrice → Type 0
+Taken zero least last cells = NoneTaken cells
+Taken (suc n) least last [] = ⊥
+Taken (suc n) least last (c ∷ cells) = (least ≤ c.day) × (c.day ≤ last) × Taken n (suc c.day) last cells
