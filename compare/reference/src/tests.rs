@@ -586,7 +586,8 @@ fn broken_events() {
         "day=0\ndo=pay\namount=4294967296\n", "day=0\ndo=pay\namount=99999999999999999999999\n",
         "day=00\ndo=warn\n", "do=warn\nday=0\n", "day=500\ndo=form\n", "day=0\ndo=charge\namount=1\nkind=1\n",
         "day=0\ndo=price\namount=1\n", "day=0\ndo=price\n", "day=0\ndo=price\nprice=01\n", "day=0\ndo=price\nprice=4294967296\n",
-        "day=0\ndo=Price\nprice=1\n", "day=0\ndo=price\nPrice=1\n", "price=1\n", "day=0\ndo=pay\namount=1 \n", "day=0\ndo=pay\nnumber=1\n", "amount=7\n", "day =0\ndo=warn\n",
+        "day=0\ndo=Price\nprice=1\n", "day=0\ndo=price\nPrice=1\n", "price=1\n", "day=0\ndo=pay\nprice=1\n",
+        "day=0\ndo=pay\namount=1 \n", "day=0\ndo=pay\nnumber=1\n", "amount=7\n", "day =0\ndo=warn\n",
     ] {
         assert_eq!(tail(s), broken, "{s:?}");
     }

@@ -76,7 +76,8 @@ const NUMBERS: &[&str] = &[
 const WORDS: &[&str] = &[
     "", "Pay", "PAY", "pay ", " pay", "payy", "pa", "pays", "reverse", "revers", "credit", "charge", "estimate", "read",
     "reads", "warn", "warning", "mark", "plan", "disconnect", "disconnec", "connect", "connects", "pay\r", "pay\0", "open",
-    "day", "price", "price", "prices", "pric", "Price", "price ", "instalment", "withdraw", "form", "0", "1", "pay=", "pay", "con", "dis", "recredit", "c", "estimated",
+    "day", "price", "price", "prices", "pric", "Price", "price ", "instalment", "withdraw", "form", "0", "1", "pay=", "pay", "con",
+    "dis", "recredit", "c", "estimated",
 ];
 
 const KEYS: &[&str] = &[
@@ -99,7 +100,7 @@ fn once(r: &mut Rng, mut text: Vec<u8>) -> Vec<u8> {
     let line = some_line(r, &text);
     // A byte of that line, its line feed included.
     let at = (line.start + r.index(line.end - line.start + 1)).min(text.len() - 1);
-    match r.below(27) {
+    match r.below(28) {
         0 => text[at] ^= 1 << r.below(8),
         1 => text[at] = r.next() as u8,
         2 => text[at] = r.pick(BYTES),
@@ -147,6 +148,20 @@ fn once(r: &mut Rng, mut text: Vec<u8>) -> Vec<u8> {
             let key = r.pick(KEYS);
             if let Some(e) = line.equals {
                 replace(&mut text, line.start, e, key.as_bytes());
+            }
+        }
+        27 => {
+            // The field of a price under the key of an amount, where its record has it, or an amount's under a price's.
+            let (from, to) = r.pick(&[
+                (&b"do=price\nprice="[..], &b"do=price\namount="[..]),
+                (b"do=pay\namount=", b"do=price\namount="),
+                (b"do=pay\namount=", b"do=pay\nprice="),
+                (b"do=credit\namount=", b"do=price\namount="),
+            ]);
+            let places: Vec<usize> = text.windows(from.len()).enumerate().filter(|(_, w)| *w == from).map(|(i, _)| i).collect();
+            if !places.is_empty() {
+                let i = r.pick(&places);
+                replace(&mut text, i, i + from.len(), to);
             }
         }
         19 => {

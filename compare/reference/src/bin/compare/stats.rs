@@ -205,7 +205,8 @@ impl Stats {
                 self.edge("price: sixteenth day", ok && days.len() == 15 && !days.contains(&x));
                 self.edge("price: seventeenth day (17)", code == 17);
                 self.edge("price: sixteenth day again", ok && days.len() == 16);
-                self.edge("price: sixteen days, and one on day 0", ok && days.len() == 16 && l.list.iter().any(|e| matches!(e.event, Price { .. }) && e.day == 0));
+                let on_day_0 = l.list.iter().any(|e| matches!(e.event, Price { .. }) && e.day == 0);
+                self.edge("price: sixteen days, and one on day 0", ok && days.len() == 16 && on_day_0);
                 self.edge("price: 3, and no place", code == 3 && no_place);
                 self.edge("price: 3, and 4,096 events", code == 3 && l.list.len() == MOST_EVENTS);
                 self.edge("price: 3, 4,096 events, no place", code == 3 && l.list.len() == MOST_EVENTS && no_place);
@@ -337,18 +338,20 @@ impl CallStats {
         let in_order = cells.windows(2).all(|w| w[0].day < w[1].day || w[1].day == 400);
         if let (Some(Estimate { usage, .. } | Read { usage, .. }), true) = (record.event(), ok || code > 4 || n.is_account() && code == 1) {
             let above = cells.iter().position(|p| p.day > usage);
+            let from_400 = above.filter(|&i| cells[i].day == 400).map_or(&[][..], |i| &cells[i..]);
+            let in_8 = usage < record.day && n.row_applies(8, record.day, record.event().unwrap());
             odd("usage: no cell above its day", above.is_none());
             odd("usage: the first cell above its day", above == Some(0));
             odd("usage: days of the prices out of order", !in_order);
-            odd("usage: day 400 before its price", above.is_some_and(|i| cells[..i].iter().any(|p| p.day == 400)));
-            odd("usage: day 400, then a day not above it", above.is_some_and(|i| cells[i].day == 400 && cells[i..].iter().any(|p| p.day <= usage)));
+            odd("usage: its day above 399", usage > 399);
+            odd("usage: day 400 before a cell not above its day", from_400.iter().any(|p| p.day <= usage));
             odd("usage: of all zeros", ok && cells.iter().all(|p| p.day == 0 && p.price == 0));
             odd("usage: price 0", ok && n.price_on(usage) == 0);
             odd("usage: price 99,999", ok && n.price_on(usage) == 99_999);
             odd("usage: price 100,000 (1)", code == 1 && n.price_on(usage) == 100_000);
             odd("usage: price 2^32 - 1 (1)", code == 1 && n.price_on(usage) == u32::MAX);
             odd("usage: price of no account, 7 applies (1)", code == 1 && usage >= record.day);
-            odd("usage: price of no account, 8 applies (1)", code == 1 && usage < record.day && n.row_applies(8, record.day, record.event().unwrap()));
+            odd("usage: price of no account, 8 applies (1)", code == 1 && in_8);
         }
         match record.event() {
             Some(Reverse { number }) if ok => {
@@ -371,7 +374,8 @@ impl CallStats {
                 odd("price: days of the prices out of order", ok && !in_order);
                 odd("price: into the first cell", ok && place == Some(0));
                 odd("price: into the last cell", ok && place == Some(cells.len() - 1));
-                odd("price: into a cell that later ones do not follow", ok && place.is_some_and(|i| cells[i + 1..].iter().any(|p| p.day <= cells[i].day && p.day != 400)));
+                let later = place.map_or(&[][..], |i| &cells[i + 1..]);
+                odd("price: before a cell of a day not later", ok && later.iter().any(|p| p.day <= record.day));
                 odd("price: over a price that no account has", ok && place.is_some_and(|i| cells[i].price > 99_999));
                 odd("price: no place (17)", code == 17);
             }
