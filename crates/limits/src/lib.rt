@@ -1,10 +1,10 @@
 // The limits of an event's fields (code 3).
-// It uses the calendar, the ledger's event and limits, and in its definitions the terms' `within`. Its promise cites the ledger's specs/Event.antt.
+// It uses the calendar, the terms' limit of a price, the ledger's event and limits, and in its definitions the terms' `within`. Its promise cites the ledger's specs/Event.antt.
 #![tactic(auto)]
 
 ghost use Rattle.std.specs.Prelude.{◌≡◌, cond, ◌&&◌, leb};
 ghost use Rattle.calendar.specs.Calendar.{final_day};
-ghost use Rattle.terms.specs.Terms.{within};
+ghost use Rattle.terms.specs.Terms.{within, max_price};
 ghost use Rattle.ledger.specs.Event.{max_amount, in_limits, is_charge_kind, is_mark_kind, is_plan_kind};
 ghost use Rattle.ledger.specs.Refusals.{code_of};
 
@@ -50,6 +50,12 @@ fn is_plan(kind: u32) -> bool
     }
 }
 
+fn is_price(price: u32) -> bool
+    ensures { result ≡ within 1 max_price price }
+{
+    (1..=terms::MAX_PRICE).contains(&price)
+}
+
 // Whether the sort, and the fields that it names, are within their limits.
 #[tactic(auto, unfolding(ledger::specs::Event::in_limits))]
 fn in_limits(e: Event) -> bool
@@ -61,8 +67,9 @@ fn in_limits(e: Event) -> bool
         5 | 6 => e.wh <= ledger::MAX_WH,
         8 => is_mark(e.kind, e.day, e.from, e.to),
         9 => is_plan(e.kind),
+        12 => is_price(e.amount),
         2 | 7 | 10 | 11 => true,
-        0 | 12.. => false,
+        0 | 13.. => false,
     }
 }
 

@@ -115,9 +115,9 @@ pub usage-limits : (e : Event) → (e.sort ≡ 5) ⊎ (e.sort ≡ 6) → in_limi
 unfolding in_limits
 usage-limits e s h = grind (arith, nat_tests)
 
--- the cost of a usage day, for an estimate and for a read
-pub cost-on : (t : Terms) (s : Totals) (e : Event) → Early t s e → (e.sort ≡ 5) ⊎ (e.sort ≡ 6) → cost_of e.wh t.price ≤ 9999899
-cost-on t s e k h = cost-limit e.wh t.price (usage-limits e h k.passed.limits) k.terms.price
+-- the cost of a usage day at a price within its limit, for an estimate and for a read
+pub cost-on : (t : Terms) (s : Totals) (e : Event) (price : ℕ) → Early t s e → (e.sort ≡ 5) ⊎ (e.sort ≡ 6) → price ≤ 99999 → cost_of e.wh price ≤ 9999899
+cost-on t s e price k h p = cost-limit e.wh price (usage-limits e h k.passed.limits) p
 
 pub record MarkLimits (e : Event) : Type 0 where
   pub kind : Between 1 3 e.kind
@@ -146,5 +146,5 @@ pub mark_order : (t : Terms) (s : Totals) (e : Event) → early_code t s e ≡ 0
 mark_order t s e h k = (mark-limits e k (early t s e h).passed.limits).from
 
 -- of an estimate and of a read
-pub usage_cost : (t : Terms) (s : Totals) (e : Event) → early_code t s e ≡ 0 → (e.sort ≡ 5) ⊎ (e.sort ≡ 6) → cost_of e.wh t.price ≤ 9999899
-usage_cost t s e h k = cost-on t s e (early t s e h) k
+pub usage_cost : (t : Terms) (s : Totals) (e : Event) (price : ℕ) → early_code t s e ≡ 0 → (e.sort ≡ 5) ⊎ (e.sort ≡ 6) → price ≤ 99999 → cost_of e.wh price ≤ 9999899
+usage_cost t s e price h k p = cost-on t s e price (early t s e h) k p

@@ -2,10 +2,12 @@
 use Rattle.std.specs.Prelude.{ℕ, ◌+◌, ◌*◌, ◌-◌, ◌/◌, ◌%◌, ◌<◌, min, ◌≡◌, Bool, true, false, cond, not, ◌&&◌, ◌||◌, List, get_or, ltb, leb, eqb, Option, Some, None, Result, Ok, Err}
 use Rattle.calendar.specs.Calendar.{saturday, final_day, day_count, month_count, weekday_on, month_on}
 use Rattle.tariff.specs.Tariff.{cost_of}
+use Rattle.tariff.specs.Prices.{day_price, price_cells, in_force, price_place}
+use Rattle.tariff.specs.declared.DayPrice.{DayPrice}
 use Rattle.marks.specs.Marks.{barring_on, latest_warning, weather_near, is_missing}
-use Rattle.terms.specs.Terms.{terms_code}
+use Rattle.terms.specs.Terms.{terms_code, max_price}
 use Rattle.terms.specs.declared.Terms.{Terms}
-use Rattle.ledger.specs.Event.{in_limits, charge_kind_count}
+use Rattle.ledger.specs.Event.{in_limits, charge_kind_count, posted_price}
 use Rattle.ledger.specs.Rules.{max_events, max_payments, required_debt}
 use Rattle.ledger.specs.declared.Event.{Event}
 use Rattle.ledger.specs.declared.Refusal.{Refusal}
@@ -17,6 +19,7 @@ use Rattle.moves.specs.declared.Payment.{Payment}
 use Rattle.moves.specs.declared.Totals.{Totals}
 use Rattle.moves.specs.declared.mark.Mark.{Mark}
 use Rattle.moves.specs.declared.Move.{Move}
+use Rattle.moves.specs.declared.Cells.{Cells}
 
 -- No list of events takes a total past 2 ^ 60, or the payments past their limit: a record where one is past it is no account of this
 -- software's, nor is one whose terms are outside their limits.
@@ -74,8 +77,18 @@ with_service s b = totals s.credit s.debit s.plan s.standing s.count s.events s.
 
 -- ---- the cells after an event
 
+-- The arrays of an account, of which an event may read any place: the sums of charges, the marks, the warnings and the prices by day.
+pub record Arrays : Type 0 where
+  pub charges : List ℕ
+  pub marks : List ℕ
+  pub warned : List ℕ
+  pub prices : List DayPrice
+
+abbrev pub arrays : List ℕ → List ℕ → List ℕ → List DayPrice → Arrays
+arrays charges marks warned prices = record { charges = charges; marks = marks; warned = warned; prices = prices }
+
 -- The answer, and the cells: the totals, payment `number`, the event's usage day, the charges summed at `place`, the warning byte of the event's
--- day, and the mark set from day `from` to day `to`, none where `to` is before `from`.
+-- day, the price at `price_at`, and the mark set from day `from` to day `to`, none where `to` is before `from`.
 pub record Moved : Type 0 where
   pub code : ℕ
   pub value : ℕ
@@ -86,12 +99,14 @@ pub record Moved : Type 0 where
   pub place : ℕ
   pub sum : ℕ
   pub warned : ℕ
+  pub price_at : ℕ
+  pub price : DayPrice
   pub kind : ℕ
   pub from : ℕ
   pub to : ℕ
 
-abbrev pub move : ℕ → ℕ → Totals → ℕ → Payment → Day → ℕ → ℕ → ℕ → ℕ → ℕ → ℕ → Moved
-move code value totals number payment day place sum warned kind from to = record {
+abbrev pub move : ℕ → ℕ → Totals → ℕ → Payment → Day → ℕ → ℕ → ℕ → ℕ → DayPrice → ℕ → ℕ → ℕ → Moved
+move code value totals number payment day place sum warned price_at price kind from to = record {
   code = code;
   value = value;
   totals = totals;
@@ -101,29 +116,34 @@ move code value totals number payment day place sum warned kind from to = record
   place = place;
   sum = sum;
   warned = warned;
+  price_at = price_at;
+  price = price;
   kind = kind;
   from = from;
   to = to;
 }
 
--- m with this answer and these totals; below, with another payment, usage day, sum of charges, warning byte or mark
+-- m with this answer and these totals; below, with another payment, usage day, sum of charges, warning byte, price or mark
 abbrev pub answering : Moved → ℕ → ℕ → Totals → Moved
-answering m code value s = move code value s m.number m.payment m.day m.place m.sum m.warned m.kind m.from m.to
+answering m code value s = move code value s m.number m.payment m.day m.place m.sum m.warned m.price_at m.price m.kind m.from m.to
 
 abbrev pub paying : Moved → ℕ → Payment → Moved
-paying m number p = move m.code m.value m.totals number p m.day m.place m.sum m.warned m.kind m.from m.to
+paying m number p = move m.code m.value m.totals number p m.day m.place m.sum m.warned m.price_at m.price m.kind m.from m.to
 
 abbrev pub on_day : Moved → Usage → Moved
-on_day m u = move m.code m.value m.totals m.number m.payment (record { usage = u }) m.place m.sum m.warned m.kind m.from m.to
+on_day m u = move m.code m.value m.totals m.number m.payment (record { usage = u }) m.place m.sum m.warned m.price_at m.price m.kind m.from m.to
 
 abbrev pub charging : Moved → ℕ → ℕ → Moved
-charging m place sum = move m.code m.value m.totals m.number m.payment m.day place sum m.warned m.kind m.from m.to
+charging m place sum = move m.code m.value m.totals m.number m.payment m.day place sum m.warned m.price_at m.price m.kind m.from m.to
 
 abbrev pub warning : Moved → Moved
-warning m = move m.code m.value m.totals m.number m.payment m.day m.place m.sum 1 m.kind m.from m.to
+warning m = move m.code m.value m.totals m.number m.payment m.day m.place m.sum 1 m.price_at m.price m.kind m.from m.to
+
+abbrev pub pricing : Moved → ℕ → DayPrice → Moved
+pricing m at price = move m.code m.value m.totals m.number m.payment m.day m.place m.sum m.warned at price m.kind m.from m.to
 
 abbrev pub marking : Moved → ℕ → ℕ → ℕ → Moved
-marking m kind from to = move m.code m.value m.totals m.number m.payment m.day m.place m.sum m.warned kind from to
+marking m kind from to = move m.code m.value m.totals m.number m.payment m.day m.place m.sum m.warned m.price_at m.price kind from to
 
 -- a refusal moves nothing
 abbrev pub refusing : Moved → ℕ → Moved
@@ -180,22 +200,26 @@ charge_of t m charges e =
     (debited (tallied m.totals e.day) e.amount)
     0)
 
-abbrev pub wh_cost : Terms → Event → ℕ
-wh_cost t e = cost_of e.wh t.price
+-- the price in force on the event's usage day
+abbrev pub usage_price : Terms → List DayPrice → Event → ℕ
+usage_price t prices e = in_force t.price prices e.usage
 
-unfoldable pub estimated_of : Terms → Moved → Event → Moved
-estimated_of t m e =
-    accepting
-    (on_day m (Estimated e.wh (wh_cost t e)))
-    (with_standing (debited (tallied m.totals e.day) (wh_cost t e)) (m.totals.standing + wh_cost t e))
-    (wh_cost t e)
+abbrev pub wh_cost : Terms → List DayPrice → Event → ℕ
+wh_cost t prices e = cost_of e.wh (usage_price t prices e)
 
-unfoldable pub metered_of : Terms → Moved → Event → ℕ → Moved
-metered_of t m e old =
+unfoldable pub estimated_of : Moved → Event → ℕ → Moved
+estimated_of m e cost =
     accepting
-    (on_day m (Metered e.wh (wh_cost t e)))
-    (with_standing (debited (credited (tallied m.totals e.day) old) (wh_cost t e)) (m.totals.standing - old))
-    (wh_cost t e)
+    (on_day m (Estimated e.wh cost))
+    (with_standing (debited (tallied m.totals e.day) cost) (m.totals.standing + cost))
+    cost
+
+unfoldable pub metered_of : Moved → Event → ℕ → ℕ → Moved
+metered_of m e cost old =
+    accepting
+    (on_day m (Metered e.wh cost))
+    (with_standing (debited (credited (tallied m.totals e.day) old) cost) (m.totals.standing - old))
+    cost
 
 -- by the usage day's state
 abbrev pub by_usage : {A : Type 0} → Usage → A → (ℕ → A) → A → A
@@ -203,15 +227,21 @@ by_usage Blank b s m = b
 by_usage (Estimated wh cost) b s m = s cost
 by_usage (Metered wh cost) b s m = m
 
-unfoldable pub estimate_of : Terms → Moved → Event → Moved
-estimate_of t m e =
-    cond (leb e.day e.usage) (refusing m 7)
-    (by_usage m.day.usage (estimated_of t m e) (λ (old : ℕ). refusing m 8) (refusing m 8))
+-- 1: a price that no account has
+unfoldable pub estimate_of : Terms → Moved → List DayPrice → Event → Moved
+estimate_of t m prices e =
+    cond (ltb max_price (usage_price t prices e)) (refusing m 1)
+    (cond (leb e.day e.usage) (refusing m 7)
+    (by_usage m.day.usage (estimated_of m e (wh_cost t prices e)) (λ (old : ℕ). refusing m 8) (refusing m 8)))
 
-unfoldable pub read_of : Terms → Moved → Event → Moved
-read_of t m e =
-    cond (leb e.day e.usage) (refusing m 7)
-    (by_usage m.day.usage (metered_of t m e 0) (λ (old : ℕ). metered_of t m e old) (refusing m 8))
+unfoldable pub read_of : Terms → Moved → List DayPrice → Event → Moved
+read_of t m prices e =
+    cond (ltb max_price (usage_price t prices e)) (refusing m 1)
+    (cond (leb e.day e.usage) (refusing m 7)
+    (by_usage m.day.usage
+    (metered_of m e (wh_cost t prices e) 0)
+    (λ (old : ℕ). metered_of m e (wh_cost t prices e) old)
+    (refusing m 8)))
 
 unfoldable pub warn_of : Terms → Moved → Event → Moved
 warn_of t m e = accepting (warning m) (tallied m.totals e.day) 0
@@ -257,32 +287,44 @@ connect_of t m e =
     cond m.totals.on (refusing m 11)
     (cond (ltb m.totals.credit (m.totals.debit + t.connect)) (refusing m 12) (served_of t m e true))
 
+-- 17: no cell is left for the day's price
+unfoldable pub price_of : Terms → Moved → List DayPrice → Event → Moved
+price_of t m prices e =
+    cond (leb price_cells (price_place prices e.day)) (refusing m 17)
+    (accepting (pricing m (price_place prices e.day) (day_price e.day (posted_price e))) (tallied m.totals e.day) 0)
+
 -- the move of sort k
-unfoldable pub by_sort : Terms → Moved → List ℕ → List ℕ → List ℕ → Event → ℕ → Moved
-by_sort t m charges marks warned e k =
+unfoldable pub by_sort : Terms → Moved → Arrays → Event → ℕ → Moved
+by_sort t m r e k =
     cond (eqb k 1) (pay_of t m e)
     (cond (eqb k 2) (reverse_of t m e)
     (cond (eqb k 3) (credit_of t m e)
-    (cond (eqb k 4) (charge_of t m charges e)
-    (cond (eqb k 5) (estimate_of t m e)
-    (cond (eqb k 6) (read_of t m e)
+    (cond (eqb k 4) (charge_of t m r.charges e)
+    (cond (eqb k 5) (estimate_of t m r.prices e)
+    (cond (eqb k 6) (read_of t m r.prices e)
     (cond (eqb k 7) (warn_of t m e)
     (cond (eqb k 8) (mark_of t m e)
-    (cond (eqb k 9) (plan_of t m marks e)
-    (cond (eqb k 10) (disconnect_of t m marks warned e)
-    (cond (eqb k 11) (connect_of t m e) (refusing m 3)))))))))))
+    (cond (eqb k 9) (plan_of t m r.marks e)
+    (cond (eqb k 10) (disconnect_of t m r.marks r.warned e)
+    (cond (eqb k 11) (connect_of t m e)
+    (cond (eqb k 12) (price_of t m r.prices e) (refusing m 3))))))))))))
 
 -- The refusals that every sort has come first, then the sort's own.
-unfoldable pub move_of : Terms → Moved → List ℕ → List ℕ → List ℕ → Event → Moved
-move_of t m charges marks warned e =
-    cond (eqb (early_code t m.totals e) 0) (by_sort t m charges marks warned e e.sort) (refusing m (early_code t m.totals e))
+unfoldable pub move_of : Terms → Moved → Arrays → Event → Moved
+move_of t m r e = cond (eqb (early_code t m.totals e) 0) (by_sort t m r e e.sort) (refusing m (early_code t m.totals e))
 
 -- Before an event: no answer yet, and the cells that it may change as they are. A number past the payments, or a day past the account's, is
 -- looked at by its remainder: where the sort names the field the event is refused, else the cell is written back as it was.
-unfoldable pub cells_before : Totals → Payment → Day → List ℕ → List ℕ → Event → Moved
-cells_before s payment day charges warned e = move 0 0 s (e.number % max_payments) payment day 0 (get_or charges 0 0) (get_or warned (e.day % day_count) 0) 0 1 0
+unfoldable pub cells_before : Totals → Payment → Day → Arrays → Event → Moved
+cells_before s payment day r e =
+    move 0 0 s (e.number % max_payments) payment day 0 (get_or r.charges 0 0) (get_or r.warned (e.day % day_count) 0)
+    0 (get_or r.prices 0 (day_price 0 0)) 0 1 0
 
 -- ---- the code's moves
+
+-- the arrays as the code has them
+abbrev pub arrays_in : Cells → Arrays
+arrays_in c = arrays c.charges.now c.marks.now c.warned.now c.prices.now
 
 -- the mark of a move of the code; without one from day 1 to day 0
 abbrev pub mark_kind : Option Mark → ℕ
@@ -299,7 +341,9 @@ mark_to None = 0
 
 -- a move of the code, which is of an event that nothing refuses
 abbrev pub accepted : Move → Moved
-accepted m = move 0 m.value m.totals m.number m.payment m.day m.place m.sum m.warned (mark_kind m.mark) (mark_from m.mark) (mark_to m.mark)
+accepted m =
+    move 0 m.value m.totals m.number m.payment m.day m.place m.sum m.warned m.price_at m.price
+    (mark_kind m.mark) (mark_from m.mark) (mark_to m.mark)
 
 -- a move of the cells, or a refusal of the event, which leaves them as they were
 abbrev pub moved_of : Moved → Result Move Refusal → Moved
@@ -307,7 +351,8 @@ moved_of before (Ok m) = accepted m
 moved_of before (Err r) = refusing before (refusal_code r)
 
 -- What `move_of` promises: the move, and that the places it names are there.
-pub record IsMove (t : Terms) (s : Totals) (payment : Payment) (day : Day) (charges marks warned : List ℕ) (e : Event) (r : Result Move Refusal) : Type 0 where
-  pub move : moved_of (cells_before s payment day charges warned e) r ≡ move_of t (cells_before s payment day charges warned e) charges marks warned e
-  pub number : (moved_of (cells_before s payment day charges warned e) r).number < max_payments
-  pub place : (moved_of (cells_before s payment day charges warned e) r).place < charge_places
+pub record IsMove (t : Terms) (s : Totals) (payment : Payment) (day : Day) (r : Arrays) (e : Event) (x : Result Move Refusal) : Type 0 where
+  pub move : moved_of (cells_before s payment day r e) x ≡ move_of t (cells_before s payment day r e) r e
+  pub number : (moved_of (cells_before s payment day r e) x).number < max_payments
+  pub place : (moved_of (cells_before s payment day r e) x).place < charge_places
+  pub price_at : (moved_of (cells_before s payment day r e) x).price_at < price_cells

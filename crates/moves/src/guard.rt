@@ -2,7 +2,7 @@
 ghost use Rattle.std.specs.Prelude.{◌≡◌, IfOk};
 ghost use Rattle.calendar.specs.Calendar.{weekday_number, month_on, weekday_on};
 ghost use Rattle.ledger.specs.Refusals.{code_of};
-ghost use Rattle.moves.specs.Moves.{early_code, accepted, cells_before};
+ghost use Rattle.moves.specs.Moves.{early_code, accepted, arrays_in, cells_before};
 
 use super::{Cells, Move, is_account};
 use calendar::{DAY_COUNT, FINAL_DAY, Weekday};
@@ -25,7 +25,7 @@ impl<'a> Checked<'a> {
         ensures code { let c = cells.entry in code_of result ≡ early_code c.terms c.totals event }
         ensures same { let c = cells.entry in
             IfOk result (λ k. (k.cells ≡ c)
-            × (accepted k.before ≡ cells_before c.totals c.payment c.day c.charges.now c.warned.now event)
+            × (accepted k.before ≡ cells_before c.totals c.payment c.day (arrays_in c) event)
             × (k.event ≡ event)) }
     {
         let s = cells.totals;
@@ -49,6 +49,8 @@ impl<'a> Checked<'a> {
             place: 0,
             sum: cells.charges[0],
             warned: cells.warned[(event.day % DAY_COUNT) as usize],
+            price_at: 0,
+            price: cells.prices[0],
             mark: None,
         };
         Ok(Checked {

@@ -5,13 +5,14 @@
 
 ghost use Rattle.std.specs.Prelude.{◌≡◌, ◌<◌};
 ghost use Rattle.ledger.specs.Rules.{max_events};
-ghost use Rattle.moves.specs.Moves.{is_in_range, is_account, tallied, by_sort, IsMove};
+ghost use Rattle.moves.specs.Moves.{is_in_range, is_account, tallied, arrays_in, by_sort, IsMove};
 ghost use Rattle.moves.specs.Sorts.{Gives};
 
 use guard::Checked;
 use ledger::{Event, MAX_PAYMENTS, Refusal};
 pub use mark::Mark;
 use marks::DayBytes;
+use tariff::{DayPrice, Prices};
 use terms::Terms;
 
 mod charges;
@@ -19,6 +20,7 @@ mod days;
 mod guard;
 mod mark;
 mod payments;
+mod prices;
 mod service;
 
 // A usage day's state, with its Wh and cost.
@@ -102,6 +104,9 @@ pub struct Move {
     pub sum: u64,
     // the warning byte of the event's day, 0 or 1: C's record has a byte a day
     pub warned: u8,
+    // the price at `price_at`
+    pub price_at: u32,
+    pub price: DayPrice,
     pub mark: Option<Mark>,
 }
 
@@ -122,7 +127,8 @@ pub fn is_account(t: Terms, s: Totals) -> bool
     t.is_valid() && s.is_in_range() && s.count <= MAX_PAYMENTS
 }
 
-// What of an account an event may read: the terms, the totals, the payment at its number, its usage day, and the charges, marks and warnings.
+// What of an account an event may read: the terms, the totals, the payment at its number, its usage day, and the charges, marks, warnings and
+// prices.
 #[derive(Clone, Copy)]
 pub struct Cells<'a> {
     pub terms: Terms,
@@ -132,6 +138,7 @@ pub struct Cells<'a> {
     pub charges: &'a Charges,
     pub marks: &'a DayBytes,
     pub warned: &'a DayBytes,
+    pub prices: &'a Prices,
 }
 
 impl Checked<'_> {
@@ -139,7 +146,7 @@ impl Checked<'_> {
     #[tactic(auto, unfolding(crate::specs::Moves::by_sort))]
     fn by_sort(self) -> Result<Move, Refusal>
         ensures { let c = self.entry.cells in
-            Gives self.entry result (λ t m e. by_sort t m c.charges.now c.marks.now c.warned.now e e.sort) }
+            Gives self.entry result (λ t m e. by_sort t m (arrays_in c) e e.sort) }
     {
         match self.event.sort {
             1 => self.pay(),
@@ -153,7 +160,8 @@ impl Checked<'_> {
             9 => self.plan(),
             10 => self.disconnect(),
             11 => self.connect(),
-            0 | 12.. => Err(Refusal::Limits),
+            12 => self.price(),
+            0 | 13.. => Err(Refusal::Limits),
         }
     }
 }
@@ -162,7 +170,7 @@ impl Checked<'_> {
 #[tactic(auto, using(crate::proofs::Places::is_move), unfolding(crate::specs::Moves::cells_before, crate::specs::Moves::move_of))]
 pub fn move_of(cells: Cells, e: Event) -> Result<Move, Refusal>
     ensures { let c = cells.entry in
-        IsMove c.terms c.totals c.payment c.day c.charges.now c.marks.now c.warned.now e result }
+        IsMove c.terms c.totals c.payment c.day (arrays_in c) e result }
 {
     let checked = Checked::new(cells, e)?;
     checked.by_sort()

@@ -9,4 +9,4 @@ pub returns : goal.returns
 unfolding cells_before
 returns c =
     let same = c.in_ok-checked.ensures.same in
-    is_move _ _ _ _ _ _ _ _ _ (simp (same.0, same.1, same.2) at (c.by_sort.ensures ∙ sym (goes_on _ _ _ _ _ _ c.in_ok-checked.checked.passed)))
+    is_move _ _ _ _ _ _ _ (simp (same.0, same.1, same.2) at (c.by_sort.ensures ∙ sym (goes_on _ _ _ _ c.in_ok-checked.checked.passed)))
