@@ -1,6 +1,7 @@
 -- The account record: its blank cells, and a fresh one.
 use Rattle.std.specs.Prelude.{false, replicate}
 use Rattle.calendar.specs.Calendar.{day_count}
+use Rattle.tariff.specs.Prices.{opening_prices}
 use Rattle.terms.specs.declared.Terms.{Terms}
 use Rattle.ledger.specs.Rules.{max_payments}
 use Rattle.moves.specs.Moves.{charge_places}
@@ -25,4 +26,5 @@ fresh t = record {
   warned = replicate day_count 0;
   payments = replicate max_payments no_payment;
   charges = replicate charge_places 0;
+  prices = opening_prices t.price;
 }

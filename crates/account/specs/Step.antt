@@ -8,7 +8,7 @@ use Rattle.ledger.specs.declared.Event.{Event}
 use Rattle.ledger.specs.declared.Refusal.{Refusal}
 use Rattle.ledger.specs.Refusals.{refusal_code, code_of, value_of}
 use Rattle.marks.specs.Marks.{marked}
-use Rattle.moves.specs.Moves.{Moved, cells_before, move_of, IsMove}
+use Rattle.moves.specs.Moves.{Arrays, arrays, Moved, cells_before, move_of, IsMove}
 use Rattle.moves.specs.declared.Move.{Move}
 use Rattle.account.specs.Record.{blank_day, no_payment, fresh}
 use Rattle.account.specs.declared.Account.{Account}
@@ -40,14 +40,18 @@ usage_at e = e.usage % day_count
 abbrev pub day_at : Event → ℕ
 day_at e = e.day % day_count
 
+-- the arrays of which an event may read any place
+abbrev pub arrays_of : Account → Arrays
+arrays_of a = arrays a.charges a.marks a.warned a.prices
+
 -- The cells that the event may touch, as they are. A number past the payments, or a day past the account's, is looked at by its remainder;
--- the arrays have 128 payments, 400 days and 75 sums of charges by their types.
+-- the arrays have 128 payments, 400 days, 75 sums of charges and 17 prices by their types.
 abbrev pub cells_of : Account → Event → Moved
-cells_of a e = cells_before a.totals (get_or a.payments (number_at e) no_payment) (get_or a.days (usage_at e) blank_day) a.charges a.warned e
+cells_of a e = cells_before a.totals (get_or a.payments (number_at e) no_payment) (get_or a.days (usage_at e) blank_day) (arrays_of a) e
 
 -- what `AsAccount::moved` promises of an account: the event's move over those cells, or its refusal
 abbrev pub MovesBy : Account → Event → Result Move Refusal → Type 0
-MovesBy a e r = IsMove a.terms a.totals (get_or a.payments (number_at e) no_payment) (get_or a.days (usage_at e) blank_day) a.charges a.marks a.warned e r
+MovesBy a e r = IsMove a.terms a.totals (get_or a.payments (number_at e) no_payment) (get_or a.days (usage_at e) blank_day) (arrays_of a) e r
 
 -- the record with the cells written back
 abbrev pub with_cells : Account → Event → Moved → Account
@@ -59,6 +63,7 @@ with_cells a e m = record {
   warned = set a.warned (day_at e) m.warned;
   payments = set a.payments m.number m.payment;
   charges = set a.charges m.place m.sum;
+  prices = set a.prices m.price_at m.price;
 }
 
 -- The account after an event, and the answer to it.
@@ -72,7 +77,7 @@ abbrev pub posted : Account → Event → Moved → Stepped
 posted a e m = record { account = cond (eqb m.code 0) (with_cells a e m) a; code = m.code; value = m.value }
 
 unfoldable pub step_of : Account → Event → Stepped
-step_of a e = posted a e (move_of a.terms (cells_of a e) a.charges a.marks a.warned e)
+step_of a e = posted a e (move_of a.terms (cells_of a e) (arrays_of a) e)
 
 -- what `post` and `step` leave and answer
 abbrev pub stepped_of : Account → Result ℕ Refusal → Stepped

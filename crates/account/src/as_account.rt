@@ -9,6 +9,7 @@ use calendar::DAY_COUNT;
 use ledger::{Event, MAX_PAYMENTS, Refusal};
 use marks::DayBytes;
 use moves::{Cells, Charges, Day, Move, Payment, Totals};
+use tariff::Prices;
 use terms::Terms;
 
 // An account as the record, or as numbers in C's memory.
@@ -38,6 +39,9 @@ pub trait AsAccount {
     fn warned(&self) -> &DayBytes
         ensures { result.now ≡ (account self.now).warned };
 
+    fn prices(&self) -> &Prices
+        ensures { result.now ≡ (account self.now).prices };
+
     // The event's move, or its refusal.
     fn moved(&self, e: Event) -> Result<Move, Refusal>
         ensures { MovesBy (account self.now) e result }
@@ -50,6 +54,7 @@ pub trait AsAccount {
             charges: self.charges(),
             marks: self.marks(),
             warned: self.warned(),
+            prices: self.prices(),
         };
         moves::move_of(cells, e)
     }
@@ -90,5 +95,9 @@ impl AsAccount for Account {
 
     fn warned(&self) -> &DayBytes {
         &self.warned
+    }
+
+    fn prices(&self) -> &Prices {
+        &self.prices
     }
 }

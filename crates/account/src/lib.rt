@@ -1,5 +1,5 @@
 // The account record, and its step: in place, and by value; and what is read of an account, however it is kept.
-// It uses the calendar, the terms, the marks, the moves, and the ledger's event and refusals. Its promises cite specs/Step.antt and
+// It uses the calendar, the tariff's prices, the terms, the marks, the moves, and the ledger's event and refusals. Its promises cite specs/Step.antt and
 // specs/Record.antt. A place is cast by `as`, since u32 has no `From` into usize.
 #![tactic(auto)]
 
@@ -12,6 +12,7 @@ use calendar::DAY_COUNT;
 use ledger::{Event, MAX_PAYMENTS, Refusal};
 use marks::DayBytes;
 use moves::{CHARGE_PLACES, Charges, Day, Payment, Totals};
+use tariff::Prices;
 use terms::Terms;
 
 mod as_account;
@@ -20,7 +21,7 @@ pub type UsageDays = [Day; DAY_COUNT as usize];
 
 pub type Payments = [Payment; MAX_PAYMENTS as usize];
 
-// One account: its terms, its totals, and what is kept by usage day, day, payment, and month with charge kind. The head keeps it in memory of
+// One account: its terms, its totals, and what is kept by usage day, day, payment, month with charge kind, and day that has a price. The head keeps it in memory of
 // its own, without a heap: so it has arrays of fixed size.
 #[derive(Clone, Copy)]
 pub struct Account {
@@ -33,6 +34,7 @@ pub struct Account {
     pub warned: DayBytes,
     pub payments: Payments,
     pub charges: Charges,
+    pub prices: Prices,
 }
 
 impl Account {
@@ -49,6 +51,7 @@ impl Account {
             warned: [0; DAY_COUNT as usize],
             payments: [Payment::default(); MAX_PAYMENTS as usize],
             charges: [0; CHARGE_PLACES],
+            prices: tariff::opening_prices(t.price),
         }
     }
 
@@ -63,6 +66,7 @@ impl Account {
         self.days[(e.usage % DAY_COUNT) as usize] = m.day;
         self.charges[m.place as usize] = m.sum;
         self.warned[(e.day % DAY_COUNT) as usize] = m.warned;
+        self.prices[m.price_at as usize] = m.price;
         if let Some(mark) = m.mark {
             marks::set(&mut self.marks, mark.kind, mark.from, mark.to);
         }
