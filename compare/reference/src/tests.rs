@@ -385,7 +385,7 @@ impl Both {
 #[test]
 fn price_limits() {
     let mut b = Both::new();
-    for (price, code) in [(0, 3), (1, 0), (99_999, 0), (100_000, 3), (65_536 + 1_250, 0), (1 << 31, 3), (u32::MAX, 3)] {
+    for (price, code) in [(0, 3), (1, 0), (99_999, 0), (100_000, 3), (65_536 + 1_250, 0), ((1 << 17) + 1_250, 3), (1 << 31, 3), (u32::MAX, 3)] {
         assert_eq!(b.code(3, Event::Price { price }), code, "{price}");
     }
     assert_eq!(b.ledger.price_on(3), 65_536 + 1_250);
@@ -928,6 +928,11 @@ fn price_cells() {
     assert_eq!([0, 399].map(|u| n.price_on(u)), [10, 10]);
     let n = with(&[(3, 10), (2, 20)]);
     assert_eq!([0, 2, 3, 4].map(|u| n.price_on(u)), [1_250, 1_250, 20, 20]);
+    // Other events leave every cell as it was.
+    let mut after = with(&[(0, 10), (401, u32::MAX), (5, 30)]);
+    let before = after.prices;
+    assert_eq!([after.post(&read(9, 8)).code, after.post(&Record::of(9, Event::Warn)).code], [0, 0]);
+    assert_eq!(after.prices, before);
     // All seventeen at or below: the last cell's; and no place.
     let n = with(&[(0, 10); 17]);
     assert_eq!([0, 399].map(|u| n.price_on(u)), [10, 10]);
@@ -973,6 +978,7 @@ fn price_that_no_account_has() {
 fn opening_over_any_numbers() {
     let mut n = numbers();
     n.totals.standing = 3;
+    n.prices[16] = PriceCells { day: 9, price: 8 };
     let before = n;
     assert_eq!((n.open(Terms { share: 51, ..terms() }), n), (1, before));
     assert_eq!((n.open(terms()), n), (0, numbers()));
