@@ -53,12 +53,15 @@ module _ (w : List ℕ) where
   unfolding sort_of
   no-word n b l e h = simp (none-in sorts (rw (l, e) h))
 
-  pub other-length : length w ≢ 3 → length w ≢ 4 → length w ≢ 6 → length w ≢ 7 → length w ≢ 8 → length w ≢ 10 → None ≡ sort_of w
-  other-length a b c d e f =
-      no-word (length w) _ refl refl (simp (ne_eqb (length w) 3 a, ne_eqb (length w) 4 b, ne_eqb (length w) 6 c, ne_eqb (length w) 7 d, ne_eqb (length w) 8 e, ne_eqb (length w) 10 f))
+  pub other-length : length w ≢ 3 → length w ≢ 4 → length w ≢ 5 → length w ≢ 6 → length w ≢ 7 → length w ≢ 8 → length w ≢ 10 → None ≡ sort_of w
+  other-length a b c d e f g =
+      no-word (length w) _ refl refl (simp (ne_eqb (length w) 3 a, ne_eqb (length w) 4 b, ne_eqb (length w) 5 c, ne_eqb (length w) 6 d, ne_eqb (length w) 7 e, ne_eqb (length w) 8 f, ne_eqb (length w) 10 g))
 
   pub not-four : length w ≡ 4 → get_or w 0 0 ≢ 114 → get_or w 0 0 ≢ 119 → get_or w 0 0 ≢ 109 → get_or w 0 0 ≢ 112 → None ≡ sort_of w
   not-four l a b c d = no-word 4 _ l refl (simp (ne_eqb (get_or w 0 0) 114 a, ne_eqb (get_or w 0 0) 119 b, ne_eqb (get_or w 0 0) 109 c, ne_eqb (get_or w 0 0) 112 d))
+
+  pub not-five : length w ≡ 5 → get_or w 0 0 ≢ 112 → None ≡ sort_of w
+  not-five l a = no-word 5 _ l refl (simp (ne_eqb (get_or w 0 0) 112 a))
 
   pub not-six : length w ≡ 6 → get_or w 0 0 ≢ 99 → None ≡ sort_of w
   not-six l a = no-word 6 _ l refl (simp (ne_eqb (get_or w 0 0) 99 a))
@@ -69,4 +72,4 @@ module _ (w : List ℕ) where
   pub not-ten : length w ≡ 10 → get_or w 0 0 ≢ 100 → None ≡ sort_of w
   not-ten l a = no-word 10 _ l refl (simp (ne_eqb (get_or w 0 0) 100 a))
 
-pub ruleset other_words = (other-length, not-four, not-six, not-eight, not-ten)
+pub ruleset other_words = (other-length, not-four, not-five, not-six, not-eight, not-ten)

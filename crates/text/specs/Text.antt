@@ -1,4 +1,4 @@
--- The form of an event text, over bytes (document 01, "Event text"): its terms and its events, line by line.
+-- The form of an event text, over bytes (document 01, "Event text"; document 02, T-01): its terms and its events, line by line.
 use Rattle.std.specs.Prelude.{ℕ, Bool, true, cond, List, [], ◌∷◌, length, ltb, eqb}
 use Prim.Native.String.{String}
 use Rattle.calendar.specs.declared.Date.{Date}
@@ -61,7 +61,7 @@ sort_row sort word fields = record { sort = sort; word = bytes word; fields = fi
 abbrev pub under : String → Field → FieldLine
 under key field = field_line (bytes key) field
 
--- "Values of `do` are the bold words", numbered in the paper's order; then "its fields in the order named above, under keys .."
+-- "Values of `do` are the bold words", numbered in the papers' order; then "its fields in the order named above, under keys .."
 abbrev pub sorts : List SortRow
 sorts =
     sort_row 1 "pay" (under "amount" Amount ∷ [])
@@ -75,9 +75,10 @@ sorts =
     ∷ sort_row 9 "plan" (under "kind" Kind ∷ [])
     ∷ sort_row 10 "disconnect" []
     ∷ sort_row 11 "connect" []
+    ∷ sort_row 12 "price" (under "price" Amount ∷ [])
     ∷ []
 
--- the sort of a word; 0 for no word of the paper's
+-- the sort of a word; 0 for no word of the papers'
 unfoldable pub sort_in : List SortRow → List ℕ → ℕ
 sort_in [] v = 0
 sort_in (r ∷ rows) v = cond (same r.word v) r.sort (sort_in rows v)

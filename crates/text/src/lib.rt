@@ -68,6 +68,7 @@ fn sort_of(word: &[u8]) -> Option<u32>
         b"plan" => Some(9),
         b"disconnect" => Some(10),
         b"connect" => Some(11),
+        b"price" => Some(12),
         _ => None,
     }
 }
@@ -106,6 +107,7 @@ fn read_fields(text: &[u8], event: Event) -> Option<(Event, &[u8])>
             (event.to, rest) = scanner::read_number(rest, b"to")?;
         }
         9 => (event.kind, rest) = scanner::read_number(text, b"kind")?,
+        12 => (event.amount, rest) = scanner::read_number(text, b"price")?,
         _ => {}
     }
     Some((event, rest))
