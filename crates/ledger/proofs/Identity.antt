@@ -143,7 +143,7 @@ outflow t l e =
     + cond (is_read e) (usage_cost t l.list e) 0
 
 module _ (t : Terms) (l : Ledger) (e : Event) (p : ℕ) (s : Invariant t l) (a : Accepted t l e) where
-  past-then : All (UsedBefore e.day) l.list
+  pub past-then : All (UsedBefore e.day) l.list
   past-then = all_map (UsedBefore (last_day l.list)) (UsedBefore e.day) (λ y h u. omega (arith, h u, a.order)) l.list s.past
 
   used-before : UsedBefore e.day (entry_of e p)

@@ -95,8 +95,8 @@ module _ (t : Terms) (m : Moved) (r : Arrays) (e : Event) (h : Placed m) where
     reverses = λ _. test (leb m.totals.count e.number) (no 6) (test m.payment.reversed (no 6) (yes refl refl refl refl));
     credits = λ _. yes refl refl refl refl;
     charged = λ s. test (ltb max_total (get_or r.charges (charge_place t e) 0)) (no 1) (taken refl h.0 (charge-place k s) h.2);
-    estimates = λ _. test (ltb max_price (usage_price t r.prices e)) (no 1) (test (leb e.day e.usage) (no 7) (by-usage m.day.usage (yes refl refl refl refl) (λ _. no 8) (no 8)));
-    reads = λ _. test (ltb max_price (usage_price t r.prices e)) (no 1) (test (leb e.day e.usage) (no 7) (by-usage m.day.usage (yes refl refl refl refl) (λ _. yes refl refl refl refl) (no 8)));
+    estimates = λ _. test (leb e.day e.usage) (no 7) (test (ltb max_price (usage_price t r.prices e)) (no 1) (by-usage m.day.usage (yes refl refl refl refl) (λ _. no 8) (no 8)));
+    reads = λ _. test (leb e.day e.usage) (no 7) (test (ltb max_price (usage_price t r.prices e)) (no 1) (by-usage m.day.usage (yes refl refl refl refl) (λ _. yes refl refl refl refl) (no 8)));
     warns = λ _. yes refl refl refl refl;
     marked = λ _. yes refl refl refl refl;
     plans = λ _. test (plan_condition_met t m.totals r.marks e) (test (ltb 0 m.totals.plan) (no 10) (yes refl refl refl refl)) (no 9);

@@ -230,14 +230,14 @@ by_usage (Metered wh cost) b s m = m
 -- 1: a price that no account has
 unfoldable pub estimate_of : Terms → Moved → List DayPrice → Event → Moved
 estimate_of t m prices e =
-    cond (ltb max_price (usage_price t prices e)) (refusing m 1)
-    (cond (leb e.day e.usage) (refusing m 7)
+    cond (leb e.day e.usage) (refusing m 7)
+    (cond (ltb max_price (usage_price t prices e)) (refusing m 1)
     (by_usage m.day.usage (estimated_of m e (wh_cost t prices e)) (λ (old : ℕ). refusing m 8) (refusing m 8)))
 
 unfoldable pub read_of : Terms → Moved → List DayPrice → Event → Moved
 read_of t m prices e =
-    cond (ltb max_price (usage_price t prices e)) (refusing m 1)
-    (cond (leb e.day e.usage) (refusing m 7)
+    cond (leb e.day e.usage) (refusing m 7)
+    (cond (ltb max_price (usage_price t prices e)) (refusing m 1)
     (by_usage m.day.usage
     (metered_of m e (wh_cost t prices e) 0)
     (λ (old : ℕ). metered_of m e (wh_cost t prices e) old)

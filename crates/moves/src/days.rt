@@ -12,19 +12,19 @@ use ledger::Refusal;
 use terms::MAX_PRICE;
 
 impl Checked<'_> {
-    // The cost of the event's usage day at the price in force on it, or a refusal: by 1 where no account has that price, by 7 where the day is not
-    // before the event's.
+    // The cost of the event's usage day at the price in force on it, or a refusal: by 7 where the day is not before the event's, by 1 where no
+    // account has that price.
     fn usage_cost(self) -> Result<u64, Refusal>
         ensures { let c = self.entry in let p = usage_price c.cells.terms c.cells.prices.now c.event in
-            result ≡ cond (ltb max_price p) (Err Terms) (cond (leb c.event.day c.event.usage) (Err UsageDay) (Ok (cost_of c.event.wh p))) }
+            result ≡ cond (leb c.event.day c.event.usage) (Err UsageDay) (cond (ltb max_price p) (Err Terms) (Ok (cost_of c.event.wh p))) }
     {
         let e = self.event;
+        if e.usage >= e.day {
+            return Err(Refusal::UsageDay);
+        }
         let price = tariff::in_force(self.cells.prices, self.cells.terms.price, e.usage);
         if price > MAX_PRICE {
             return Err(Refusal::Terms);
-        }
-        if e.usage >= e.day {
-            return Err(Refusal::UsageDay);
         }
         Ok(tariff::cost(e.wh, price))
     }

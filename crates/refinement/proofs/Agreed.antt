@@ -18,9 +18,9 @@ use Rattle.ledger.specs.Rules.{Ledger, max_payments}
 use Rattle.ledger.specs.Sums.{standing_cost}
 use Rattle.ledger.specs.Ledger.{Outcome, refusal, ledger_step}
 use Rattle.ledger.proofs.Accepted.{Accepted, accepted-by}
-use Rattle.ledger.specs.Invariant.{Invariant}
+use Rattle.ledger.specs.Invariant.{All, UsedBefore, Invariant}
 use Rattle.ledger.proofs.Money.{diff, diff-add, diff-sub}
-use Rattle.ledger.proofs.Identity.{standing-then}
+use Rattle.ledger.proofs.Identity.{past-then, standing-then}
 use Rattle.moves.specs.Moves.{Moved, max_total, is_account, early_code, refusing}
 use Rattle.moves.specs.declared.Totals.{Totals}
 use Rattle.moves.proofs.Early.{Early, early}
@@ -92,6 +92,10 @@ module _ (a : Account) (l : Ledger) (g : Agree a.terms a l) where
       module _ (s : Invariant t l) (z : refusal t l e ≡ 0) where
         pub taken : Accepted t l e
         taken = accepted-by t l e (eq-eqb (refusal t l e) 0 z)
+
+        -- usage days are before the event's
+        pub past : All (UsedBefore e.day) l.list
+        past = past-then t l e 0 s taken
 
         -- the standing estimates after the event
         pub standing-is : (p : ℕ) → standing_cost t (record { event = e; part = p } ∷ l.list) + cond (is_read e) (estimate_cost_of (usage_day t l.list e.usage)) 0

@@ -11,6 +11,7 @@ use lib.IntN.{pos, ◌-ℤ◌}
 use borrow.Author.Tests.{eqb-true, leb-false}
 use Rattle.marks.specs.Marks.{mark_range, marked}
 use Rattle.marks.proofs.Laws.{marked-length}
+use Rattle.tariff.specs.Prices.{day_price}
 use Rattle.terms.specs.declared.Terms.{Terms}
 use Rattle.ledger.specs.declared.Event.{Event}
 use Rattle.ledger.specs.Entries.{Entries, last_day, payment_count, usage_day}
@@ -25,11 +26,11 @@ use Rattle.moves.specs.declared.Totals.{Totals}
 use Rattle.account.specs.Record.{blank_day, no_payment}
 use Rattle.account.specs.Step.{number_at, usage_at, day_at, cells_of, with_cells}
 use Rattle.account.specs.declared.Account.{Account}
-use Rattle.refinement.specs.Agree.{Agree, recorded_usage, recorded_payment, recorded_marks, warned_on}
+use Rattle.refinement.specs.Agree.{PricesAgree, Agree, recorded_usage, recorded_payment, recorded_marks, warned_on}
 use Rattle.refinement.proofs.Fields.{payments-same, payments-one}
-use Rattle.refinement.proofs.Keeps.{amounts-keep, charged-keep, held-keep, payments-stay, days-stay, marks_stay, warned-stay, charges-stay}
+use Rattle.refinement.proofs.Keeps.{amounts-keep, charged-keep, held-keep, payments-stay, days-stay, marks_stay, warned-stay, charges-stay, prices-stay}
 use Rattle.refinement.proofs.Refusals.{Passes, takes}
-use Rattle.refinement.proofs.Agreed.{Refines, facts, taken, standing-is}
+use Rattle.refinement.proofs.Agreed.{Refines, facts, taken, past, standing-is}
 
 -- no mark, set
 marks-left : (a : Account) → marked a.marks 0 1 0 ≡ a.marks
@@ -58,6 +59,7 @@ left k a e m =
     (cond (used k) m.day c.day)
     (cond (eqb k 4) m.place c.place) (cond (eqb k 4) m.sum c.sum)
     (cond (eqb k 7) m.warned c.warned)
+    (cond (eqb k 12) m.price_at c.price_at) (cond (eqb k 12) m.price c.price)
     (cond (eqb k 8) m.kind c.kind) (cond (eqb k 8) m.from c.from) (cond (eqb k 8) m.to c.to)
 
 -- What a sort's own cell shows after the event, where L is then l.
@@ -67,7 +69,8 @@ Own k t b l =
     (when (used k) (((u : ℕ) → u < 400 → (get_or b.days u blank_day).usage ≡ recorded_usage (usage_day t l u)) × (b.totals.standing ≡ standing_cost t l) × (b.totals.standing ≤ b.totals.events * 10000000))
     (when (eqb k 8) ((d : ℕ) → d < 400 → get_or b.marks d 0 ≡ recorded_marks l d)
     (when (eqb k 7) ((d : ℕ) → d < 400 → get_or b.warned d 0 ≡ cond (warned_on l d) 1 0)
-    (when (eqb k 4) ((m i : ℕ) → m < 15 → i < 5 → get_or b.charges (5 * m + i) 0 ≡ charges_in t l m (suc i)) (Unit {0})))))
+    (when (eqb k 4) ((m i : ℕ) → m < 15 → i < 5 → get_or b.charges (5 * m + i) 0 ≡ charges_in t l m (suc i))
+    (when (eqb k 12) (PricesAgree t b.prices l) (Unit {0}))))))
 
 -- B, R and service after the event, as the ledger's move x has them, and the bounds
 pub record Money (a : Account) (s : Totals) (x : Effect) : Type 0 where
@@ -105,7 +108,7 @@ module _ (a : Account) (l : Ledger) (e : Event) (g : Agree a.terms a l) (s : Inv
   days-law : (u : ℕ) → u < 400 → (get_or b.days u blank_day).usage ≡ recorded_usage (usage_day t after u)
   unfolding cells_before
   days-law = decide (eqb k 5) (λ y. (own 5 y).0) (λ f. decide (eqb k 6) (λ y. (own 6 y).0) (λ f'.
-      rw (simp (f, f') at (ap (λ (y : Moved). y.day) w), set-get_or a.days (usage_at e) blank_day) (days-stay t a e x.part l.list g.kept (sort-is 5 f) (sort-is 6 f'))))
+      rw (simp (f, f') at (ap (λ (y : Moved). y.day) w), set-get_or a.days (usage_at e) blank_day) (days-stay t a e x.part l.list g.kept (past a l g e h s z) (sort-is 5 f) (sort-is 6 f'))))
 
   marks-law : (d : ℕ) → d < 400 → get_or b.marks d 0 ≡ recorded_marks after d
   unfolding cells_before
@@ -121,6 +124,12 @@ module _ (a : Account) (l : Ledger) (e : Event) (g : Agree a.terms a l) (s : Inv
   unfolding cells_before
   charges-law = decide (eqb k 4) (λ y. own 4 y) (λ f.
       rw (simp f at (ap (λ (y : Moved). y.place) w), simp f at (ap (λ (y : Moved). y.sum) w), set-get_or a.charges 0 0) (charges-stay t a e x.part l.list g.kept (sort-is 4 f)))
+
+  prices-law : PricesAgree t b.prices after
+  unfolding cells_before
+  prices-law = decide (eqb k 12) (λ y. own 12 y) (λ f.
+      rw (simp f at (ap (λ (y : Moved). y.price_at) w), simp f at (ap (λ (y : Moved). y.price) w), set-get_or a.prices 0 (day_price 0 0))
+      (prices-stay t a e x.part l.list g.kept (sort-is 12 f) (taken a l g e h s z).order))
 
   -- ---- the totals that no sort but its own writes
 
@@ -177,11 +186,12 @@ module _ (a : Account) (l : Ledger) (e : Event) (g : Agree a.terms a l) (s : Inv
       payments = payments-law;
       amounts = amounts-keep t e x.part l.list h.limits g.kept.amounts;
       days = days-law;
-      held = held-keep t e x.part l.list h.limits (facts a l g e h).terms.price g.kept.held;
+      held = held-keep t e x.part l.list h.limits s.prices (past a l g e h s z) g.kept.held;
       marks = marks-law;
       warned = warned-law;
       charges = charges-law;
       charged = charged-keep t e x.part l.list h.limits g.kept.charged;
+      prices = prices-law;
     };
     sizes = record {
       payments = simp length-set g.sizes.payments;
@@ -189,6 +199,7 @@ module _ (a : Account) (l : Ledger) (e : Event) (g : Agree a.terms a l) (s : Inv
       marks = marked-length a.marks m.kind m.from m.to ∙ g.sizes.marks;
       warned = simp length-set g.sizes.warned;
       charges = simp length-set g.sizes.charges;
+      prices = simp length-set g.sizes.prices;
     };
   }
 

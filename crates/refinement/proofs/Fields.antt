@@ -12,10 +12,13 @@ use Rattle.tariff.specs.Tariff.{cost_of}
 use Rattle.terms.specs.declared.Terms.{Terms}
 use Rattle.ledger.specs.declared.Event.{Event}
 use Rattle.ledger.specs.Event.{is_pay, is_reverse, is_charge, is_estimate, is_read, is_warn, is_mark}
-use Rattle.ledger.specs.Entries.{Entries, any, count, sum, find, paid_amount, payment_count, payment, has_number, reversed, estimated, metered, usage_day, read_on, estimate_on, wh_on, price_on, covered}
+use Rattle.ledger.specs.Entries.{Entries, any, count, sum, find, paid_amount, payment_count, payment, has_number, reversed, estimated, metered, usage_day, usage_cost, read_on, estimate_on, wh_on, price_on, covered}
 use Rattle.ledger.specs.Months.{charges_in, month_of}
 use Rattle.std.proofs.lemmas.Bool.{and_parts}
-use Rattle.ledger.proofs.Cases.{decide}
+use Rattle.ledger.specs.Invariant.{All, UsedBefore}
+use Rattle.ledger.proofs.Cases.{decide, other}
+use Rattle.ledger.proofs.Prices.{price-same, price-stays}
+use Rattle.ledger.proofs.PriceLaws.{used-before}
 use Rattle.refinement.specs.Agree.{warned_on}
 
 module _ (e : Event) (p : ℕ) (l : Entries) where
@@ -64,26 +67,31 @@ module _ (e : Event) (p : ℕ) (l : Entries) where
   unfolding find
   wh-new q u t = rw t
 
-  pub usage-same : (t : Terms) (u : ℕ) → estimate_on u e ≡ false → read_on u e ≡ false → usage_day t more u ≡ usage_day t l u
-  unfolding usage_day any price_on
-  usage-same t u f g = simp (f, g, wh-same estimate_on u f, wh-same read_on u g)
+  -- whatever the event is: a price changes that of no usage day before it
+  pub usage-same : (t : Terms) (u : ℕ) → All (UsedBefore e.day) l → estimate_on u e ≡ false → read_on u e ≡ false → usage_day t more u ≡ usage_day t l u
+  unfolding usage_day any
+  usage-same t u a f g = decide (any (read_on u) l)
+      (λ r. simp (f, g, r, wh-same read_on u g, price-stays t (record { event = e; part = p }) l u (used-before e.day u l a (simp r))))
+      (λ r. decide (any (estimate_on u) l)
+      (λ i. simp (f, g, r, i, wh-same estimate_on u f, price-stays t (record { event = e; part = p }) l u (used-before e.day u l a (simp (r, i)))))
+      (λ i. simp (f, g, r, i)))
 
   pub usage-estimated : (t : Terms) → is_estimate e ≡ true → is_read e ≡ false → any (read_on e.usage) l ≡ false
-      → usage_day t more e.usage ≡ estimated e.wh (cost_of e.wh t.price)
-  unfolding usage_day any price_on
+      → usage_day t more e.usage ≡ estimated e.wh (usage_cost t l e)
+  unfolding usage_day any
   usage-estimated t i r f =
       let s : eqb e.usage e.usage ≡ true = eq-eqb e.usage e.usage refl in
-      simp (wh-new estimate_on e.usage (simp (i, s)), i, r, f, s)
+      simp (wh-new estimate_on e.usage (simp (i, s)), i, r, f, s, price-same t (record { event = e; part = p }) l e.usage (other e.sort 5 12 refl i))
 
-  pub usage-metered : (t : Terms) → is_read e ≡ true → usage_day t more e.usage ≡ metered e.wh (cost_of e.wh t.price)
-  unfolding usage_day any price_on
+  pub usage-metered : (t : Terms) → is_read e ≡ true → usage_day t more e.usage ≡ metered e.wh (usage_cost t l e)
+  unfolding usage_day any
   usage-metered t r =
       let s : eqb e.usage e.usage ≡ true = eq-eqb e.usage e.usage refl in
-      simp (wh-new read_on e.usage (simp (r, s)), r, s)
+      simp (wh-new read_on e.usage (simp (r, s)), r, s, price-same t (record { event = e; part = p }) l e.usage (other e.sort 6 12 refl r))
 
   pub usage-read-before : (t : Terms) → is_read e ≡ false → any (read_on e.usage) l ≡ true
-      → usage_day t more e.usage ≡ metered (wh_on l read_on e.usage) (cost_of (wh_on l read_on e.usage) t.price)
-  unfolding usage_day any price_on
+      → usage_day t more e.usage ≡ metered (wh_on l read_on e.usage) (cost_of (wh_on l read_on e.usage) (price_on t more e.usage))
+  unfolding usage_day any
   usage-read-before t r m = simp (wh-same read_on e.usage (rw r), r, m)
 
   pub covered_same : (k d : ℕ) → is_mark e ≡ false → covered more k d ≡ covered l k d

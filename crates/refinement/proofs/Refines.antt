@@ -3,9 +3,10 @@
 use Prim.Native.Nat.{ℕ, ◌+◌, ◌*◌}
 use native.Mathlib.Omega.{arith}
 use mathlib.Core.Path.{◌≡◌, refl, sym, ◌∙◌, subst}
-use mathlib.Core.Bool.{true, false, ◌||◌, true≢false}
+use mathlib.Core.Bool.{true, false, ◌||◌, or-false, and-false, true≢false}
 use lib.ListN.{length, length-replicate, get_or-replicate}
 use lib.Dec.{ltb, leb, eqb}
+use Rattle.tariff.proofs.Laws.{opening-taken, opening-force, opening-days}
 use Rattle.terms.specs.Terms.{valid_terms}
 use Rattle.terms.specs.declared.Terms.{Terms}
 use Rattle.ledger.specs.declared.Event.{Event}
@@ -21,14 +22,14 @@ use Rattle.ledger.proofs.Cases.{decide}
 use Rattle.moves.specs.Moves.{Moved, cells_before, early_code, by_sort, move_of}
 use Rattle.moves.proofs.Arms as moves
 use Rattle.account.specs.Record.{fresh, blank_day, no_payment}
-use Rattle.account.specs.Step.{cells_of, step_of}
+use Rattle.account.specs.Step.{arrays_of, cells_of, step_of}
 use Rattle.account.specs.declared.Account.{Account}
 use Rattle.refinement.specs.Agree.{Agree, warned_on}
 use Rattle.refinement.proofs.Refusals.{Passes, code-2, code-3, code-4}
 use Rattle.refinement.proofs.Agreed.{Same, Refines, early-is, refused-same, passed}
 use Rattle.refinement.proofs.Payments.{pays, reverses, credits, charged}
 use Rattle.refinement.proofs.Usage.{estimates, reads}
-use Rattle.refinement.proofs.Service.{warns, marked, plans, disconnects, connects}
+use Rattle.refinement.proofs.Service.{warns, marked, plans, disconnects, connects, prices}
 
 module _ (a : Account) (l : Ledger) (e : Event) (s : Invariant a.terms l) (g : Agree a.terms a l) where
   abbrev t : Terms
@@ -37,8 +38,8 @@ module _ (a : Account) (l : Ledger) (e : Event) (s : Invariant a.terms l) (g : A
   abbrev c : Moved
   c = cells_of a e
 
-  by-sort : Passes l e → Refines a l e (by_sort t c a.charges a.marks a.warned e e.sort)
-  by-sort h = moves.by-sort t c a.charges a.marks a.warned e (Refines a l e) (record {
+  by-sort : Passes l e → Refines a l e (by_sort t c (arrays_of a) e e.sort)
+  by-sort h = moves.by-sort t c (arrays_of a) e (Refines a l e) (record {
     pays = pays a l e g s h;
     reverses = reverses a l e g s h;
     credits = credits a l e g s h;
@@ -50,19 +51,20 @@ module _ (a : Account) (l : Ledger) (e : Event) (s : Invariant a.terms l) (g : A
     plans = plans a l e g s h;
     disconnects = disconnects a l e g s h;
     connects = connects a l e g s h;
+    priced = prices a l e g s h;
     other = λ f. absurd (true≢false (sym h.limits ∙ f));
   })
 
   -- the move of an event refused by the checks of every event, and of one that passes them
-  early : (k : ℕ) → early_code t a.totals e ≡ k → eqb k 0 ≡ false → refusal t l e ≡ k → Refines a l e (move_of t c a.charges a.marks a.warned e)
+  early : (k : ℕ) → early_code t a.totals e ≡ k → eqb k 0 ≡ false → refusal t l e ≡ k → Refines a l e (move_of t c (arrays_of a) e)
   unfolding move_of cells_before
   early k q f h = rw (q, f) (refused-same a l g e k h f)
 
-  late : Passes l e → Refines a l e (move_of t c a.charges a.marks a.warned e)
+  late : Passes l e → Refines a l e (move_of t c (arrays_of a) e)
   unfolding move_of cells_before
   late h = rw (passed a l g e h) (by-sort h)
 
-  moves-refine : Refines a l e (move_of t c a.charges a.marks a.warned e)
+  moves-refine : Refines a l e (move_of t c (arrays_of a) e)
   moves-refine = decide (ltb e.day (last_day l.list) || ltb 399 e.day)
       (λ d. early 2 (early-is a l g e ∙ simp d) refl (code-2 t l e d))
       (λ d. decide (in_limits e)
@@ -81,7 +83,7 @@ refines t a l e s g =
 
 -- a fresh account agrees with the opening ledger
 pub agree_fresh : (t : Terms) → valid_terms t ≡ true → Agree t (fresh t) opening
-unfolding fresh any find last_day payment_count count payment reversed usage_day covered warned_on standing_cost charges_in entries.sum
+unfolding fresh any find last_day payment_count count payment reversed usage_day covered warned_on standing_cost charges_in entries.sum entries.price_days entries.priced entries.price_on
 agree_fresh t v = record {
   terms = refl;
   valid = v;
@@ -96,6 +98,11 @@ agree_fresh t v = record {
     warned = λ d h. get_or-replicate 400 d 0 0 h;
     charges = λ m k h i. get_or-replicate 75 (5 * m + k) 0 0 (omega arith);
     charged = λ m k. omega arith;
+    prices = record {
+      taken = opening-taken t.price;
+      days = λ d h. opening-days t.price d h ∙ rw and-false (sym (or-false (eqb d 0)));
+      force = λ u h. opening-force t.price u h;
+    };
   };
   sizes = record {
     payments = length-replicate 128 no_payment;
@@ -103,5 +110,6 @@ agree_fresh t v = record {
     marks = length-replicate {A = ℕ} 400 0;
     warned = length-replicate {A = ℕ} 400 0;
     charges = length-replicate {A = ℕ} 75 0;
+    prices = refl;
   };
 }

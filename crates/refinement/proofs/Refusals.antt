@@ -2,14 +2,14 @@
 -- Assumes nothing.
 use Prim.Native.Nat.{ℕ}
 use mathlib.Core.Path.{◌≡◌}
-use mathlib.Core.Bool.{true, false, cond, not, ◌||◌, or-false}
+use mathlib.Core.Bool.{true, false, cond, not, ◌&&◌, ◌||◌, or-false}
 use lib.Dec.{ltb, leb, eqb}
 use lib.IntN.{pos}
 use lib.Signed.{lt_z, le_z}
 use Rattle.terms.specs.declared.Terms.{Terms}
 use Rattle.ledger.specs.declared.Event.{Event}
 use Rattle.ledger.specs.Event.{in_limits}
-use Rattle.ledger.specs.Entries.{payment_count, reversed, warned, usage_day, is_blank, is_metered, barred}
+use Rattle.ledger.specs.Entries.{payment_count, reversed, warned, priced, price_days, usage_day, is_blank, is_metered, barred}
 use Rattle.ledger.specs.Rules.{Ledger, may_defer, day_refused, is_full, refusals, first_of}
 use Rattle.ledger.specs.Ledger.{Effect, effect_of, joined, answer, refusal, ledger_step}
 
@@ -77,6 +77,10 @@ module _ (t : Terms) (l : Ledger) (e : Event) where
     pub connect-code : e.sort ≡ 11 → refusal t l e ≡ cond l.on 11 (cond (lt_z l.balance (pos t.connect)) 12 0)
     unfolding refusal refusals first_of
     connect-code k = simp (s.days, s.limits, s.room, k)
+
+    pub price-code : e.sort ≡ 12 → refusal t l e ≡ cond (leb 16 (price_days l.list) && not (priced l.list e.day)) 17 0
+    unfolding refusal refusals first_of
+    price-code k = simp (s.days, s.limits, s.room, k)
 
   -- the step by the code
   pub refuses : (c : ℕ) → refusal t l e ≡ c → eqb c 0 ≡ false → ledger_step t l e ≡ record { ledger = l; answer = answer c 0 }

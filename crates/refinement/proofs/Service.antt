@@ -9,7 +9,8 @@ use mathlib.Core.List.{[], ◌∷◌}
 use lib.Dec.{ltb, leb, eqb}
 use lib.IntN.{ℤ, pos, neg_ℤ, nat_abs, ◌-ℤ◌}
 use lib.Signed.{lt_z, le_z}
-use borrow.Author.Tests.{leb-true, ltb-true, le-leb, eqb-true, ne_eqb, eq-eqb}
+use Rattle.tariff.specs.Prices.{price_place}
+use borrow.Author.Tests.{leb-true, leb-false, ltb-true, ltb-false, le-leb, eqb-true, ne_eqb, eq-eqb}
 use Rattle.calendar.specs.Calendar.{weekday_on}
 use Rattle.calendar.proofs.Laws.{weekday-next}
 use Rattle.terms.specs.declared.Terms.{Terms}
@@ -18,21 +19,21 @@ use Rattle.marks.specs.Marks as marks
 use Rattle.marks.proofs.Laws.{latest-some, latest-none, near-is, byte-weather, byte-barring}
 use Rattle.ledger.specs.declared.Event.{Event}
 use Rattle.ledger.specs.Event.{is_warn}
-use Rattle.ledger.specs.Entries.{Entries, any, warned, weather, weekday, covered, barred, business, weather_recent}
+use Rattle.ledger.specs.Entries.{Entries, any, last_day, priced, price_days, warned, weather, weekday, covered, barred, business, weather_recent}
 use Rattle.ledger.specs.Rules.{Ledger, may_defer}
 use Rattle.ledger.specs.Ledger.{effect_of, service_effect, plan_effect, deferred}
 use Rattle.ledger.specs.Invariant.{Invariant}
-use Rattle.std.proofs.lemmas.Bool.{and_parts}
+use Rattle.std.proofs.lemmas.Bool.{and_parts, or_parts}
 use Rattle.ledger.proofs.Cases.{decide}
 use Rattle.ledger.proofs.Money.{diff, diff-eq, diff-zero, diff-lt, diff-ge, diff-low, diff-gap}
-use Rattle.moves.specs.Moves.{Moved, cells_before, tallied, with_service, plan_condition_met, deferral_of, barred_on, warn_of, mark_of, deferring_of, plan_of, served_of, disconnect_of, connect_of}
+use Rattle.moves.specs.Moves.{Moved, cells_before, tallied, with_service, plan_condition_met, deferral_of, barred_on, warn_of, mark_of, deferring_of, plan_of, served_of, disconnect_of, connect_of, price_of}
 use Rattle.moves.proofs.Arms.{branch}
 use Rattle.moves.proofs.Early.{mark-limits}
 use Rattle.account.specs.Step.{day_at, cells_of}
 use Rattle.account.specs.declared.Account.{Account}
 use Rattle.refinement.specs.Agree.{Agree, warned_on}
-use Rattle.refinement.proofs.Refusals.{Passes, warn-code, mark_code, plan-code, disconnect-code, connect-code}
-use Rattle.refinement.proofs.Keeps.{marks-set, warned-set}
+use Rattle.refinement.proofs.Refusals.{Passes, warn-code, mark_code, plan-code, disconnect-code, connect-code, price-code}
+use Rattle.refinement.proofs.Keeps.{marks-set, warned-set, prices-full, prices-set}
 use Rattle.refinement.proofs.Agreed.{Refines, refused-same, facts}
 use Rattle.refinement.proofs.Cells.{Money, accepted}
 
@@ -203,3 +204,18 @@ module _ (a : Account) (l : Ledger) (e : Event) (g : Agree a.terms a l) (s : Inv
       (λ o. let o' : l.on ≡ false = rw g.sums.on at o in
       branch (Refines a l e) (ltb a.totals.credit (a.totals.debit + t.connect)) (λ b. refused-same a l g e 12 (connect-code t l e h k ∙ simp (o', sym connect-is ∙ b)) refl)
       (λ b. accepted a l e g s h (connect-code t l e h k ∙ simp (o', sym connect-is ∙ b)) 11 k _ refl (service_effect l true) tt (rw k refl) refl refl (still true true refl)))
+
+  order : last_day l.list ≤ e.day
+  order = ltb-false e.day (last_day l.list) (or_parts (ltb e.day (last_day l.list)) (ltb 399 e.day) h.days).0
+
+  full-is : leb 17 (price_place a.prices e.day) ≡ (leb 16 (price_days l.list) && not (priced l.list e.day))
+  full-is = prices-full t a e 0 l.list g.kept s.days order (omega (arith, day))
+
+  pub prices : e.sort ≡ 12 → Refines a l e (price_of t c a.prices e)
+  unfolding effect_of price_of cells_before
+  prices k =
+      branch (Refines a l e) (leb 17 (price_place a.prices e.day))
+      (λ y. refused-same a l g e 17 (price-code t l e h k ∙ rw (sym full-is, y) refl) refl)
+      (λ f. accepted a l e g s h (price-code t l e h k ∙ rw (sym full-is, f) refl) 12 k _ refl (service_effect l l.on)
+      (prices-set t a e 0 l.list g.kept (rw k refl) order (omega (arith, day)) g.sizes.prices (leb-false 17 (price_place a.prices e.day) f))
+      (rw k refl) refl refl unserved)

@@ -1,11 +1,13 @@
 -- When an account record represents a ledger: each of its fields is what the ledger reads off the terms and L.
-use Rattle.std.specs.Prelude.{ℕ, suc, ◌+◌, ◌*◌, ◌≤◌, ◌<◌, ◌≡◌, Bool, true, cond, ◌&&◌, List, length, get_or, eqb, pos, ◌-ℤ◌}
+use Rattle.std.specs.Prelude.{ℕ, suc, ◌+◌, ◌*◌, ◌≤◌, ◌<◌, ◌≡◌, Bool, true, cond, ◌&&◌, ◌||◌, List, length, get_or, eqb, pos, ◌-ℤ◌}
 use Rattle.calendar.specs.Calendar.{day_count, month_count}
+use Rattle.tariff.specs.declared.DayPrice.{DayPrice}
+use Rattle.tariff.specs.Prices.{price_cells, in_force, has_price, Taken}
 use Rattle.terms.specs.Terms.{valid_terms}
 use Rattle.terms.specs.declared.Terms.{Terms}
 use Rattle.ledger.specs.declared.Event.{Event}
 use Rattle.ledger.specs.Event.{is_warn, max_amount, charge_kind_count}
-use Rattle.ledger.specs.Entries.{estimate_cost_of, Entries, any, last_day, payment_count, paid_on, paid_amount, paid_part, reversed, UsageDay, blank, estimated, metered, usage_day, covered}
+use Rattle.ledger.specs.Entries.{estimate_cost_of, Entries, any, last_day, payment_count, paid_on, paid_amount, paid_part, reversed, UsageDay, blank, estimated, metered, usage_day, price_on, priced, price_days, covered}
 use Rattle.ledger.specs.Rules.{Ledger, max_events, max_payments}
 use Rattle.ledger.specs.Ledger.{opening, ledger_step, ledger_after}
 use Rattle.ledger.specs.Calls.{ledger_codes}
@@ -69,7 +71,13 @@ pub record Bounds (s : Totals) : Type 0 where
   pub plan : s.plan ≤ s.events * max_rise
   pub standing : s.standing ≤ s.events * max_amount
 
--- what is kept by payment, usage day, day, and month with charge kind
+-- The prices by day: the first cell is day 0's, and each later day that has a price has one, in order; and what is in force by them.
+pub record PricesAgree (t : Terms) (cells : List DayPrice) (l : Entries) : Type 0 where
+  pub taken : Taken (suc (price_days l)) 0 (last_day l) cells
+  pub days : (d : ℕ) → d < day_count → has_price cells d ≡ (eqb d 0 || priced l d)
+  pub force : (u : ℕ) → u < day_count → in_force t.price cells u ≡ price_on t l u
+
+-- what is kept by payment, usage day, day, month with charge kind, and day that has a price
 pub record CellsAgree (t : Terms) (a : Account) (l : Entries) : Type 0 where
   pub payments : (n : ℕ) → n < payment_count l → get_or a.payments n no_payment ≡ recorded_payment l n
   pub amounts : (n : ℕ) → paid_amount l n ≤ max_amount
@@ -79,6 +87,7 @@ pub record CellsAgree (t : Terms) (a : Account) (l : Entries) : Type 0 where
   pub warned : (d : ℕ) → d < day_count → get_or a.warned d 0 ≡ cond (warned_on l d) 1 0
   pub charges : (m k : ℕ) → m < month_count → k < charge_kind_count → get_or a.charges (charge_kind_count * m + k) 0 ≡ charges_in t l m (suc k)
   pub charged : (m k : ℕ) → charges_in t l m k ≤ length l * max_amount
+  pub prices : PricesAgree t a.prices l
 
 -- the lengths of the arrays
 pub record Sizes (a : Account) : Type 0 where
@@ -87,6 +96,7 @@ pub record Sizes (a : Account) : Type 0 where
   pub marks : length a.marks ≡ day_count
   pub warned : length a.warned ≡ day_count
   pub charges : length a.charges ≡ charge_places
+  pub prices : length a.prices ≡ price_cells
 
 -- the same terms, within their limits, and each field of the record what the ledger reads off the terms and L
 pub record Agree (t : Terms) (a : Account) (l : Ledger) : Type 0 where

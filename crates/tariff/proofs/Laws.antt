@@ -35,6 +35,11 @@ none-after zero least last cells t h = refl
 none-after (suc n) least last [] t h = absurd t
 none-after (suc n) least last (c ∷ cells) t h = omega (arith, t.0, t.1)
 
+-- up to day 0 there is day 0's alone
+pub taken-first : (n : ℕ) (cells : List DayPrice) → Taken (suc n) 0 0 cells → n ≡ 0
+taken-first n [] t = absurd t
+taken-first n (c ∷ cells) t = none-after n (suc c.day) 0 cells t.2 (omega arith)
+
 pub taken-length : (n least last : ℕ) (cells : List DayPrice) → Taken n least last cells → n ≤ length cells
 taken-length zero least last cells t = omega arith
 taken-length (suc n) least last [] t = absurd t
