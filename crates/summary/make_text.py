@@ -1,14 +1,16 @@
 #!/usr/bin/env python3
-"""Writes stdin and stdout: a text of some 300 events and the lines of its months, by a model of its own (document 01, "Events" and "Month summary").
+"""Writes stdin and stdout: a text of some 300 events and the lines of its months, by a model of its own (document 01, "Events" and
+"Month summary"; document 02, T-01).
 
-The first ten events are the paper's example. The last event breaks its form, so the payment after it is not read."""
+The first ten events are the paper's example. The price moves within month 14. The last event breaks its form, so the payment after it
+is not read."""
 import datetime
 import random
 
 # Month 0 has day 0 alone, month 1 is a leap February, and month 14 has days 395 to 399.
 OPENED, PRICE = datetime.date(2024, 1, 31), 1250
 FIELDS = {"pay": ["amount"], "credit": ["amount"], "reverse": ["number"], "charge": ["kind", "amount"], "estimate": ["usage", "wh"],
-          "read": ["usage", "wh"], "warn": [], "connect": [], "disconnect": []}
+          "read": ["usage", "wh"], "warn": [], "connect": [], "disconnect": [], "price": ["price"]}
 
 
 def month(day):
@@ -16,13 +18,12 @@ def month(day):
     return 12 * (d.year - OPENED.year) + d.month - OPENED.month
 
 
-def cost(wh):
-    return (wh * PRICE + 50000) // 100000
-
-
 class Model:
     def __init__(self):
-        self.last, self.pays, self.charges, self.days = 0, [], [], {}
+        self.last, self.pays, self.charges, self.days, self.prices = 0, [], [], {}, {0: PRICE}
+
+    def cost(self, u, wh):
+        return (wh * self.prices[max(day for day in self.prices if day <= u)] + 50000) // 100000
 
     def post(self, day, do, *f):
         if day < self.last or day > 399:
@@ -51,6 +52,8 @@ class Model:
             if self.days.get(f[0], "b")[0] == "m":
                 return
             self.days[f[0]] = ("m", f[1])
+        elif do == "price":
+            self.prices[day] = f[0]
         elif do in ("connect", "disconnect"):
             return  # neither granted nor refused changes a summary; none is the newest event of its day here
         self.last = day
@@ -65,8 +68,8 @@ class Model:
                 v += [len(amounts), sum(amounts)]
             both = [0, 0]
             for sort in "me":
-                whs = [wh for u, (s, wh) in self.days.items() if month(u) == m and s == sort]
-                v += [sum(whs), sum(cost(w) for w in whs)]
+                used = [(u, wh) for u, (s, wh) in self.days.items() if month(u) == m and s == sort]
+                v += [sum(wh for _, wh in used), sum(self.cost(u, wh) for u, wh in used)]
                 both = [both[0] + v[-2], both[1] + v[-1]]
             kinds = [sum(a for d, k, a in self.charges if month(d) == m and k == kind) for kind in range(1, 6)]
             v += kinds
@@ -93,7 +96,7 @@ def events():
         yield {"pay": (day, do, amount), "credit": (day, do, amount), "reverse": (day, do, rng.randrange(70)),
                "charge": (day, do, rng.randrange(7), amount), "estimate": (day, do, usage, wh), "read": (day, do, usage, wh)}[do]
     # month 14; the last read is of a usage day in month 13
-    yield from [(395, "pay", 1500), (396, "pay", 700), (396, "reverse", 0), (397, "estimate", 395, 40), (398, "read", 396, 30000),
+    yield from [(395, "pay", 1500), (396, "price", 2500), (396, "reverse", 0), (397, "estimate", 395, 40), (398, "read", 396, 30000),
                 (399, "charge", 2, 250), (399, "read", 380, 32000)]
 
 

@@ -1,9 +1,9 @@
-// The transcripts of texts that break their form, at each kind of line, and of texts beside them that do not.
+// The transcripts of texts that break their form, at each kind of line, and of texts beside them that do not; and of texts with prices by day.
 // It uses the transcript.
 // The file stdin has the cases, each its name, which begins with `#`, and its text, a `%` after both. What follows a `*` stands in the text
 // 4,675 times.
 // A name has `P` where the usual terms and a payment of 6000 on day 0 stand first in the text, and `T` where the terms do.
-// The file stdout is worked out from document 01 by hand; none of its lines is copied from a run.
+// The file stdout is worked out from documents 01 and 02 by hand; none of its lines is copied from a run.
 #![tactic(auto)]
 
 use std::io;
