@@ -122,7 +122,7 @@ typedef struct {
  * Any numbers are read as an account: whatever they are, no call reads or writes elsewhere, wraps a sum or runs without end. They are no
  * account, and every event and every month gets 1, where the terms are outside their limits (as in memory of zeros), `count` is above 128,
  * or one of credit, debit, plan and standing is above 2^60; a charge that nothing else refuses gets 1 where the sum that it adds to is above
- * 2^60, and an estimate or a read that 2, 3 or 4 does not refuse gets 1 where the price of its usage day is above 99,999. No account that
+ * 2^60, and an estimate or a read that 2, 3, 4 or 7 does not refuse gets 1 where the price of its usage day is above 99,999. No account that
  * these calls alone have written is such.
  * An accepted event writes the totals, and at most one payment, one usage day, one sum of charges, one price, one byte of `warned`, and in
  * `marks` the days of its mark; as these calls write them: yes as 1, no as 0, a blank day as 0, 0, 0. The payment `number` modulo 128 and the
@@ -142,8 +142,9 @@ typedef struct {
 } prepay_payment;
 
 /* A price in force from a day on. The first of an account's cells is day 0's, the next ones are those of later days, in order; a cell that is
- * not taken has day 400. The price of usage day u is that of the last cell before the first whose day is above u, and the opening price where
- * that is the first cell. A price posted on day x goes to the first cell whose day is not below x; where there is none it gets 17. */
+ * not taken has day 400. The price of usage day u is that of the last cell before the first whose day is above u (of the last of all where
+ * there is none), and the opening price of the terms where that is the first cell. A price posted on day x goes to the first cell whose day
+ * is not below x, as x and the price; where there is none it gets 17. No other event changes a cell. */
 typedef struct {
     uint32_t day, price;
 } prepay_price;
