@@ -21,7 +21,7 @@ TYPES = {
     "prepay_totals": "numbers::TotalsNumbers",
     "prepay_day": "numbers::DayNumbers",
     "prepay_payment": "numbers::PaymentNumbers",
-    "prepay_price": "numbers::PriceNumbers",
+    "prepay_price": "tariff::DayPrice",
     "prepay_account": "numbers::Numbers",
     "prepay_answer": "head::AnswerNumbers",
     "prepay_reading": "head::ReadingNumbers",

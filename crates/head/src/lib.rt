@@ -89,9 +89,9 @@ impl From<Summary> for FigureNumbers {
 // The version of this interface: another number where a call, a struct or the meaning of an account's numbers is another.
 #[unsafe(no_mangle)]
 pub extern "C" fn prepay_version() -> u32
-    ensures { result ≡ 2 }
+    ensures { result ≡ 3 }
 {
-    2
+    3
 }
 
 // A fresh account. Where the terms are outside their limits the answer is 1, and nothing is written.

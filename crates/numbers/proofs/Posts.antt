@@ -10,6 +10,8 @@ use lib.Dec.{ltb, eqb}
 use borrow.Author.Tests.{ne_eqb}
 use Rattle.std.specs.Prelude.{Ok, Err}
 use Rattle.std.proofs.lemmas.Bool.{cond-false}
+use Rattle.tariff.specs.Prices.{opening_prices}
+use Rattle.tariff.specs.declared.DayPrice.{DayPrice}
 use Rattle.terms.specs.Terms.{valid_terms, terms_code}
 use Rattle.terms.specs.declared.Terms.{Terms}
 use Rattle.ledger.specs.declared.Answer.{Answer}
@@ -20,7 +22,7 @@ use Rattle.ledger.proofs.Cases.{decide, positive}
 use Rattle.moves.specs.Moves.{Moved, accepted, move_of}
 use Rattle.moves.specs.declared.Move.{Move}
 use Rattle.account.specs.Record.{blank_day, no_payment, fresh}
-use Rattle.account.specs.Step.{MovesBy, cells_of, posted, step_of}
+use Rattle.account.specs.Step.{MovesBy, arrays_of, cells_of, posted, step_of}
 use Rattle.account.specs.declared.Account.{Account}
 use Rattle.refinement.specs.Lists.{account_after}
 use Rattle.posting.specs.Posting.{answer_of, row_of, left_after, row_left}
@@ -47,7 +49,7 @@ module _ (a : Account) (e : Event) where
   pub posted-numbers : posted_in (numbers_of a) e ≡ numbers_of (step_of a e).account
   unfolding posted_in step_of numbers_of
   posted-numbers =
-      let move : Account → Moved = λ (x : Account). move_of a.terms (cells_of x e) a.charges a.marks a.warned e in
+      let move : Account → Moved = λ (x : Account). move_of a.terms (cells_of x e) (arrays_of x) e in
       ap (λ (x : Account). cond (eqb (move x).code 0) (with_move (numbers_of a) e (move x)) (numbers_of a)) (come-back a) ∙ by-move (move a)
 
 pub posts-in : (n : Numbers) (e : Event) (m : Numbers) (r : Answer) → m ≡ posted_in n e → r ≡ answer_of (step_of (account_in n) e) → PostsIn n e m r
@@ -85,11 +87,12 @@ module _ (t : Terms) (n : Numbers) where
   opens-in v = record { code = simp v; account = λ h. come-back (fresh t); numbers = λ h. refl; unchanged = λ f. absurd (f refl) }
 
   -- by each array as it is filled
-  pub opened : (s : TotalsNumbers) (d : DayNumbers) (p : PaymentNumbers)
-      → s ≡ totals_numbers (fresh t).totals → d ≡ day_numbers blank_day → p ≡ payment_numbers no_payment → valid_terms t ≡ true
-      → OpensIn t n (record { totals = s; charges = replicate 75 0; terms = t; days = replicate 400 d; payments = replicate 128 p; spare = 0; marks = replicate 400 0; warned = replicate 400 0 }) 0
+  pub opened : (s : TotalsNumbers) (cs : List DayPrice) (d : DayNumbers) (p : PaymentNumbers)
+      → s ≡ totals_numbers (fresh t).totals → cs ≡ opening_prices t.price → d ≡ day_numbers blank_day → p ≡ payment_numbers no_payment
+      → valid_terms t ≡ true
+      → OpensIn t n (record { totals = s; charges = replicate 75 0; terms = t; prices = cs; days = replicate 400 d; payments = replicate 128 p; spare = 0; marks = replicate 400 0; warned = replicate 400 0 }) 0
   unfolding fresh numbers_of
-  opened s d p hs hd hp v = rw (hs, hd, hp, ← map-replicate day_numbers 400 blank_day, ← map-replicate payment_numbers 128 no_payment) (opens-in v)
+  opened s cs d p hs hc hd hp v = rw (hs, hc, hd, hp, ← map-replicate day_numbers 400 blank_day, ← map-replicate payment_numbers 128 no_payment) (opens-in v)
 
   pub refused : valid_terms t ≡ false → OpensIn t n n 1
   unfolding terms_code

@@ -13,7 +13,7 @@ use Rattle.moves.specs.declared.Day.{Day}
 use Rattle.moves.specs.declared.Payment.{Payment}
 use Rattle.moves.specs.declared.Totals.{Totals}
 use Rattle.account.specs.Record.{fresh}
-use Rattle.account.specs.Step.{usage_at, day_at, cells_of, step_of}
+use Rattle.account.specs.Step.{usage_at, day_at, arrays_of, cells_of, step_of}
 use Rattle.account.specs.declared.Account.{Account}
 use Rattle.posting.specs.Posting.{Posts, row_of, row_left, PostsRow}
 use Rattle.numbers.specs.declared.DayNumbers.{DayNumbers}
@@ -63,6 +63,7 @@ account_in n = record {
   warned = n.warned;
   payments = map payment_in n.payments;
   charges = n.charges;
+  prices = n.prices;
 }
 
 -- ---- the numbers of an account
@@ -95,6 +96,7 @@ numbers_of a = record {
   totals = totals_numbers a.totals;
   charges = a.charges;
   terms = a.terms;
+  prices = a.prices;
   days = map day_numbers a.days;
   payments = map payment_numbers a.payments;
   spare = 0;
@@ -110,7 +112,7 @@ NumbersComeBack = (a : Account) → account_in (numbers_of a) ≡ a
 
 -- the event's move, over the account that the numbers are read as
 abbrev pub move_in : Numbers → Event → Moved
-move_in n e = move_of n.terms (cells_of (account_in n) e) n.charges n.marks n.warned e
+move_in n e = move_of n.terms (cells_of (account_in n) e) (arrays_of (account_in n)) e
 
 -- the numbers with a move's cells written, each in its own place
 abbrev pub with_move : Numbers → Event → Moved → Numbers
@@ -118,6 +120,7 @@ with_move n e m = record {
   totals = totals_numbers m.totals;
   charges = set n.charges m.place m.sum;
   terms = n.terms;
+  prices = set n.prices m.price_at m.price;
   days = set n.days (usage_at e) (day_numbers m.day);
   payments = set n.payments m.number (payment_numbers m.payment);
   spare = n.spare;

@@ -1,9 +1,11 @@
 // The account as numbers alone, which a caller in C keeps in its own memory: opened, posted to and read in place.
-// It uses the calendar's days, the terms, the ledger's event and refusals, the marks, the moves and the account, and in its promises the
-// refinement and the posting calls. Its promises cite specs/Numbers.antt. A place is cast by `as`, since u32 has no `From` into usize.
+// It uses the calendar's days, the tariff's prices, the terms, the ledger's event and refusals, the marks, the moves and the account, and in its
+// promises the refinement and the posting calls. Its promises cite specs/Numbers.antt. A place is cast by `as`, since u32 has no `From` into
+// usize.
 #![tactic(auto)]
 
 ghost use Rattle.std.specs.Prelude.{◌≡◌, ◌<◌};
+ghost use Rattle.tariff.specs.Prices.{price_cells};
 ghost use Rattle.ledger.specs.Rules.{max_payments};
 ghost use Rattle.ledger.specs.Refusals.{code_of, answer_record};
 ghost use Rattle.numbers.specs.Numbers.{day_in, payment_in, totals_in, account_in, day_numbers, payment_numbers, totals_numbers};
@@ -16,6 +18,7 @@ use ledger::{Event, MAX_PAYMENTS, Refusal};
 use marks::DayBytes;
 use moves::{CHARGE_PLACES, Charges, Day, Move, Payment, Totals, Usage};
 use posting::Postable;
+use tariff::Prices;
 use terms::Terms;
 
 // The types below are C's: kinds, and yes and no, are numbers there, of which C may hand in any.
@@ -64,6 +67,7 @@ pub struct Numbers {
     pub totals: TotalsNumbers,
     pub charges: Charges,
     pub terms: Terms,
+    pub prices: Prices,
     pub days: [DayNumbers; DAYS],
     pub payments: [PaymentNumbers; PAYMENTS],
     // 0; C would leave four bytes unused in its place
@@ -208,6 +212,10 @@ impl AsAccount for Numbers {
     fn warned(&self) -> &DayBytes {
         &self.warned
     }
+
+    fn prices(&self) -> &Prices {
+        &self.prices
+    }
 }
 
 // The numbers of an account are read as it. The function does nothing; its promise is the theorem.
@@ -226,6 +234,7 @@ impl Numbers {
         self.totals = TotalsNumbers::default();
         self.charges = [0; CHARGE_PLACES];
         self.terms = t;
+        self.prices = tariff::opening_prices(t.price);
         self.days = [DayNumbers::default(); DAYS];
         self.payments = [PaymentNumbers::default(); PAYMENTS];
         self.spare = 0;
@@ -237,7 +246,7 @@ impl Numbers {
     // The cells of a move, each in its own place.
     #[tactic(auto, unfolding(marks::specs::Marks::marked, marks::specs::Marks::mark_range))]
     fn write(&mut self, e: Event, m: Move)
-        requires { (m.number < max_payments) × (m.place < charge_places) }
+        requires { (m.number < max_payments) × (m.place < charge_places) × (m.price_at < price_cells) }
         ensures { self.new ≡ with_move self.old e (accepted m) }
     {
         self.totals = TotalsNumbers::from(m.totals);
@@ -245,6 +254,7 @@ impl Numbers {
         self.days[(e.usage % DAY_COUNT) as usize] = DayNumbers::from(m.day);
         self.charges[m.place as usize] = m.sum;
         self.warned[(e.day % DAY_COUNT) as usize] = m.warned;
+        self.prices[m.price_at as usize] = m.price;
         if let Some(mark) = m.mark {
             marks::set(&mut self.marks, mark.kind, mark.from, mark.to);
         }

@@ -9,4 +9,4 @@ returns-then-not-is_valid c = refused _ _ (sym c.is_valid.ensures ∙ c.if-not-i
 
 pub returns : goal.returns
 unfolding fresh payment_numbers totals_numbers
-returns c = opened _ _ c.default-self.result c.default-self-2.result c.default-self-3.result (search rules) (search rules) (search rules) (sym c.is_valid.ensures ∙ c.if-not-is_valid.false)
+returns c = opened _ _ c.default-self.result _ c.default-self-2.result c.default-self-3.result (search rules) (search rules) (search rules) (search rules) (sym c.is_valid.ensures ∙ c.if-not-is_valid.false)
