@@ -108,12 +108,19 @@ static uint32_t cell_of(const prepay_account *of, uint32_t day) {
 static int may_be(uint64_t code, int account, const prepay_account *was, const prepay_event *e) {
     if (!account)
         return code == PREPAY_NO_ACCOUNT;
+    if (e->sort == PREPAY_ESTIMATE || e->sort == PREPAY_READ) {
+        uint32_t first = e->day < was->totals.last || e->day > 399 ? PREPAY_BAD_DAY
+                         : e->wh > 9999999                         ? PREPAY_BAD_FIELD
+                         : was->totals.events >= 4096              ? PREPAY_EVENTS_FULL
+                         : e->usage >= e->day                      ? PREPAY_USAGE_NOT_PAST
+                         : price_of(was, e->usage) > 99999         ? PREPAY_NO_ACCOUNT
+                                                                   : PREPAY_OK;
+        return code == first || (first == PREPAY_OK && code == PREPAY_USAGE_NOT_BLANK);
+    }
     if (code >= PREPAY_BAD_DAY && code <= PREPAY_EVENTS_FULL)
         return 1;
     if (e->sort == PREPAY_PRICE)
         return code == (cell_of(was, e->day) < PREPAY_PRICE_CELLS ? PREPAY_OK : PREPAY_PRICES_FULL);
-    if ((e->sort == PREPAY_ESTIMATE || e->sort == PREPAY_READ) && price_of(was, e->usage) > 99999)
-        return code == PREPAY_NO_ACCOUNT;
     return code <= PREPAY_DAY_BARRED && (code != PREPAY_NO_ACCOUNT || e->sort == PREPAY_CHARGE);
 }
 
@@ -243,9 +250,11 @@ static void strange_accounts(void) {
         fill((uint8_t *)a + (i % 3 == 0 ? 0 : from), (i % 3 == 1 ? sizeof *a : to) - (i % 3 == 0 ? 0 : from));
         feed();
     }
-    /* A good account with odd prices: days in order or not, some cells or all, prices at their limit and above it. */
+    /* A good account with odd prices: days in order or not, some cells or all, prices at their limit and above it; some full of events. */
     for (int i = 0; i < 1000; i++) {
         *a = base;
+        if (below(8) == 0)
+            a->totals.events = 4096 - below(2);
         uint32_t step = 1 + below(24);
         for (uint32_t k = 0; k < PREPAY_PRICE_CELLS; k++)
             if (i % 2 || below(2))

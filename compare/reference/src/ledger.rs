@@ -139,7 +139,7 @@ pub trait Book {
         true
     }
 
-    /// Is the price of the event's usage day one that a price can be? Asked of an event that rows 1 to 4 do not refuse.
+    /// Is the price of the event's usage day one that a price can be? Asked of an event that rows 1 to 7 do not refuse.
     fn has_price(&self, _event: Event) -> bool {
         true
     }
@@ -190,10 +190,10 @@ pub trait Book {
         }
     }
 
-    /// The lowest row that applies; but 1 where the event's usage day has no good price, after row 4, or its sum cannot be kept, after all.
+    /// The lowest row that applies; but 1 where the event's usage day has no good price, after row 7, or its sum cannot be kept, after all.
     fn refusal(&self, x: u32, event: Event) -> u8 {
         match ROWS.into_iter().find(|&row| self.row_applies(row, x, event)) {
-            Some(row @ 1..=4) => row,
+            Some(row @ 1..=7) => row,
             _ if !self.has_price(event) => 1,
             Some(row) => row,
             None => !self.has_room(x, event) as u8,

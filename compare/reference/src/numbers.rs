@@ -4,9 +4,7 @@
 //! What the header does not say, and is taken so here:
 //! - which of credit and debit an event raises: the comparison takes their difference alone;
 //! - a payment on a day past 399 lies in no month; a payment's `part` above its `amount` leaves nothing for the balance;
-//! - a read gives back no more of `standing` than it has;
-//! - where no cell's day is above a usage day, whatever its number (one above 399 too), its price is that of the last cell;
-//! - an event that is no price leaves every cell of the prices as it was, and a price changes one cell alone, to its day and price.
+//! - a read gives back no more of `standing` than it has.
 
 use crate::calendar::Date;
 pub use crate::head::{Account as Numbers, Day as DayCells, Payment as PaymentCells, Price as PriceCells, Reading, Terms as TermCells, Totals};

@@ -960,9 +960,10 @@ fn price_that_no_account_has() {
         n.days[5].state = 2;
         let before = n;
         let mut codes = |events: &[Record]| events.iter().map(|e| n.post(e).code).collect::<Vec<u8>>();
-        // After 2 and 3; before 7 and 8.
-        assert_eq!(codes(&[read(5, 5, 0), read(6, 5, 10_000_000), read(6, 5, 0), read(6, 6, 0), read(6, 399, 0)]), [2, 3, 1, 1, 1]);
-        assert_eq!(codes(&[Record::of(6, Event::Estimate { usage: 5, wh: 0 })]), [1]);
+        // After 2, 3 and 7; before 8.
+        assert_eq!(codes(&[read(5, 5, 0), read(6, 5, 10_000_000), read(6, 5, 0)]), [2, 3, 1]);
+        assert_eq!(codes(&[6, 399, 400, u32::MAX].map(|usage| read(6, usage, 0))), [7, 7, 7, 7]);
+        assert_eq!(codes(&[5, 6].map(|usage| Record::of(6, Event::Estimate { usage, wh: 0 }))), [1, 7]);
         assert_eq!(n, before);
         n.totals.events = 4_096;
         assert_eq!(n.post(&read(6, 5, 0)).code, 4);

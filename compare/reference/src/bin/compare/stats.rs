@@ -336,21 +336,23 @@ impl CallStats {
         let ok = code == 0;
         let cells = &n.prices;
         let in_order = cells.windows(2).all(|w| w[0].day < w[1].day || w[1].day == 400);
-        if let (Some(Estimate { usage, .. } | Read { usage, .. }), true) = (record.event(), ok || code > 4 || n.is_account() && code == 1) {
+        if let (Some(Estimate { usage, .. } | Read { usage, .. }), 7) = (record.event(), code) {
+            odd("usage: price of no account, 7 applies (7)", n.price_on(usage) > 99_999);
+            odd("usage: price of no account, its day above 399 (7)", n.price_on(usage) > 99_999 && usage > 399);
+        }
+        if let (Some(Estimate { usage, .. } | Read { usage, .. }), true) = (record.event(), ok || code > 7 || n.is_account() && code == 1) {
             let above = cells.iter().position(|p| p.day > usage);
             let from_400 = above.filter(|&i| cells[i].day == 400).map_or(&[][..], |i| &cells[i..]);
-            let in_8 = usage < record.day && n.row_applies(8, record.day, record.event().unwrap());
+            let in_8 = n.row_applies(8, record.day, record.event().unwrap());
             odd("usage: no cell above its day", above.is_none());
             odd("usage: the first cell above its day", above == Some(0));
             odd("usage: days of the prices out of order", !in_order);
-            odd("usage: its day above 399", usage > 399);
             odd("usage: day 400 before a cell not above its day", from_400.iter().any(|p| p.day <= usage));
             odd("usage: of all zeros", ok && cells.iter().all(|p| p.day == 0 && p.price == 0));
             odd("usage: price 0", ok && n.price_on(usage) == 0);
             odd("usage: price 99,999", ok && n.price_on(usage) == 99_999);
             odd("usage: price 100,000 (1)", code == 1 && n.price_on(usage) == 100_000);
             odd("usage: price 2^32 - 1 (1)", code == 1 && n.price_on(usage) == u32::MAX);
-            odd("usage: price of no account, 7 applies (1)", code == 1 && usage >= record.day);
             odd("usage: price of no account, 8 applies (1)", code == 1 && in_8);
         }
         match record.event() {
