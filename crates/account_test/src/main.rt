@@ -1,4 +1,4 @@
-// The posting calls and the readings, at both sides of every limit of document 01.
+// The posting calls and the readings, at both sides of every limit of document 01 and of document 02's T-01.
 // The file stdin has the cases, and says how they are written. The file stdout has its lines again, and after a case's colon the answers:
 // these are worked out from the paper by hand, and none is copied from a run.
 // It uses the calendar's date, the terms, the ledger's event and refusals, the moves' totals, the account, and the posting and the reading calls.
@@ -23,8 +23,8 @@ enum Way {
     Each(u32),
 }
 
-// The words of the sorts, 1 to 11.
-const SORTS: [&str; 11] = [
+// The words of the sorts, 1 to 12.
+const SORTS: [&str; 12] = [
     "pay",
     "reverse",
     "credit",
@@ -36,6 +36,7 @@ const SORTS: [&str; 11] = [
     "plan",
     "disconnect",
     "connect",
+    "price",
 ];
 
 // ---- what a line says
@@ -100,7 +101,7 @@ fn event(word: &str, line: &str) -> Option<Event> {
         return Some(any_event(line));
     }
     let place = SORTS.iter().position(|sort| *sort == word)?;
-    // a place below 11: usize has no `From` into u32
+    // a place below 12: usize has no `From` into u32
     Some(named_event(place as u32 + 1, line))
 }
 
