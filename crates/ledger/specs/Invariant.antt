@@ -1,6 +1,6 @@
 -- What holds of the ledger from its opening on, whatever events it is fed.
 use Rattle.std.specs.Prelude.{ℕ, ◌+◌, ◌≤◌, ◌<◌, ◌≡◌, true, ◌||◌, [], ◌∷◌, pos, ◌-ℤ◌}
-use Rattle.tariff.specs.Prices.{max_price_days}
+use Rattle.tariff.specs.Tariff.{max_price_days}
 use Rattle.terms.specs.Terms.{max_share, max_price}
 use Rattle.terms.specs.declared.Terms.{Terms}
 use Rattle.ledger.specs.Event.{is_estimate, is_read}

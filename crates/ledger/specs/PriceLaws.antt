@@ -1,6 +1,6 @@
 -- What holds of the prices of a ledger, whatever events it is fed (document 02, T-01).
 use Rattle.std.specs.Prelude.{ℕ, ◌≤◌, ◌<◌, ◌≡◌, Bool, true, false, ◌||◌, List}
-use Rattle.tariff.specs.Prices.{max_price_days}
+use Rattle.tariff.specs.Tariff.{max_price_days}
 use Rattle.terms.specs.Terms.{max_price}
 use Rattle.terms.specs.declared.Terms.{Terms}
 use Rattle.ledger.specs.declared.Event.{Event}

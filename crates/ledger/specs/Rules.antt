@@ -2,7 +2,7 @@
 use Rattle.std.specs.Prelude.{ℕ, ◌≡◌, Bool, true, false, cond, not, ◌&&◌, ◌||◌, List, [], ◌∷◌, length, ltb, leb, eqb, ℤ, pos, neg_ℤ}
 use Rattle.std.specs.Int.Signed.{lt_z, le_z}
 use Rattle.calendar.specs.Calendar.{final_day}
-use Rattle.tariff.specs.Prices.{max_price_days}
+use Rattle.tariff.specs.Tariff.{max_price_days}
 use Rattle.terms.specs.declared.Terms.{Terms}
 use Rattle.ledger.specs.declared.Event.{Event}
 use Rattle.ledger.specs.Event.{is_pay, is_reverse, is_estimate, is_read, is_plan, is_disconnect, is_connect, is_price, in_limits}

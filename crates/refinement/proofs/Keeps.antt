@@ -11,7 +11,7 @@ use lib.Dec.{ltb, leb, eqb}
 use borrow.Author.Tests.{eq-eqb, ne_eqb, eqb-true, eqb-false, ltb-true, ltb-false, leb-true, leb-false, le-leb, lt-leb}
 use Rattle.calendar.specs.Calendar.{month_on}
 use Rattle.tariff.specs.Prices.{day_price, price_place}
-use Rattle.tariff.proofs.Laws.{taken-longer, taken-first, place-is, Priced, priced-is}
+use Rattle.tariff.proofs.Laws.{taken-longer, taken-first, place-is, WithPrice, with_price-is}
 use Rattle.terms.specs.declared.Terms.{Terms}
 use Rattle.marks.specs.Marks.{marked}
 use Rattle.marks.proofs.Laws.{marked-at, byte_or}
@@ -165,8 +165,8 @@ module _ (t : Terms) (a : Account) (e : Event) (p : ℕ) (l : Entries) (k : Cell
       x : Entry
       x = record { event = e; part = p }
 
-      laws : Priced a.prices (price_place a.prices e.day) 0 e.day e.amount
-      laws = priced-is (suc (price_days l)) 0 (last_day l) e.day e.amount a.prices k.prices.taken (omega arith) h d (rw n r)
+      laws : WithPrice a.prices (price_place a.prices e.day) 0 e.day e.amount
+      laws = with_price-is (suc (price_days l)) 0 (last_day l) e.day e.amount a.prices k.prices.taken (omega arith) h d (rw n r)
 
       place : price_days (F.more e p l) ≡ price_place a.prices e.day
       place = let q = rw (k.prices.days e.day d) at (place-is (suc (price_days l)) 0 (last_day l) e.day a.prices k.prices.taken h d) in decide (ltb 0 e.day)

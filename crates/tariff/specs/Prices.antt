@@ -1,13 +1,11 @@
--- The prices of an account by day (document 02, T-01), in cells: day 0's, then those of later days, in order.
+-- The prices of an account by day, as the record has them: in cells, day 0's first, then those of later days, in order.
 use Rattle.std.specs.Prelude.{ℕ, zero, suc, ◌+◌, ◌≤◌, ◌≡◌, Bool, false, cond, ◌||◌, List, [], ◌∷◌, replicate, ltb, leb, eqb}
 use Rattle.std.specs.List.{prefix_len}
 use Rattle.calendar.specs.Calendar.{day_count}
+use Rattle.tariff.specs.Tariff.{max_price_days}
 use Rattle.tariff.specs.declared.DayPrice.{DayPrice}
 
--- "sixteen days after day 0 have a price already": so many may
-abbrev pub max_price_days : ℕ
-max_price_days = 16
-
+-- day 0's price, and those of sixteen days after it
 abbrev pub price_cells : ℕ
 price_cells = max_price_days + 1
 
@@ -22,7 +20,8 @@ no_price = day_price day_count 0
 abbrev pub opening_prices : ℕ → List DayPrice
 opening_prices opening = day_price 0 opening ∷ replicate max_price_days no_price
 
--- The price in force on day u: that of the last cell before the first one whose day is above u, the opening price where that is the first.
+-- The price in force on day u: the cells are passed in order up to the first whose day is above u; that of the last passed, the opening price
+-- where none is.
 unfoldable pub in_force : ℕ → List DayPrice → ℕ → ℕ
 in_force opening [] u = opening
 in_force opening (c ∷ cells) u = cond (leb c.day u) (in_force c.price cells u) opening
