@@ -1,4 +1,4 @@
-//! The events that are posted in the measurements: all sorts, about nine in ten accepted.
+//! The events that are posted in the measurements: all sorts of document 01, about nine in ten accepted.
 
 use crate::account::*;
 use crate::text::{write_event, write_terms};

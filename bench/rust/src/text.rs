@@ -379,7 +379,7 @@ pub fn standard_output() -> std::mem::ManuallyDrop<std::fs::File> {
     std::mem::ManuallyDrop::new(unsafe { std::fs::File::from_raw_fd(1) })
 }
 
-/// An event's lines. The sort must be one of the eleven.
+/// An event's lines. The sort must be one of document 01's eleven.
 pub fn write_event(out: &mut Vec<u8>, e: &Event) {
     let names = ["pay", "reverse", "credit", "charge", "estimate", "read", "warn", "mark", "plan", "disconnect", "connect"];
     let _ = writeln!(out, "day={}\ndo={}", e.day, names[e.sort as usize - 1]);

@@ -1,6 +1,6 @@
 // The account record, and its step: in place, and by value; and what is read of an account, however it is kept.
-// It uses the calendar, the tariff's prices, the terms, the marks, the moves, and the ledger's event and refusals. Its promises cite specs/Step.antt and
-// specs/Record.antt. A place is cast by `as`, since u32 has no `From` into usize.
+// It uses the calendar, the tariff's prices, the terms, the marks, the moves, and the ledger's event and refusals. Its promises cite
+// specs/Step.antt and specs/Record.antt. A place is cast by `as`, since u32 has no `From` into usize.
 #![tactic(auto)]
 
 ghost use Rattle.std.specs.Prelude.{◌≡◌};
@@ -21,8 +21,8 @@ pub type UsageDays = [Day; DAY_COUNT as usize];
 
 pub type Payments = [Payment; MAX_PAYMENTS as usize];
 
-// One account: its terms, its totals, and what is kept by usage day, day, payment, month with charge kind, and day that has a price. The head keeps it in memory of
-// its own, without a heap: so it has arrays of fixed size.
+// One account: its terms, its totals, and what is kept by usage day, day, payment, month with charge kind, and day that has a price. The head keeps
+// it in memory of its own, without a heap: so it has arrays of fixed size.
 #[derive(Clone, Copy)]
 pub struct Account {
     pub terms: Terms,

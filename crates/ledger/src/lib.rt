@@ -1,7 +1,7 @@
-// The ledger of demand 3: its definitions, from document 01 alone, and the figures that document 01 marks (P); the event, its answer and a month's
-// figures.
-// It uses the calendar's, the tariff's and the terms' definitions, and nothing of the head. Its promises cite specs/Refusals.antt and
-// specs/Figures.antt.
+// The ledger of demand 3: its definitions, from documents 01 and 02 alone, the figures that document 01 marks (P) and those of document 02, and what
+// holds of the prices; the event, its answer and a month's figures.
+// It uses the calendar's, the tariff's and the terms' definitions, and nothing of the head. Its promises cite specs/Refusals.antt,
+// specs/Figures.antt and specs/PriceLaws.antt.
 #![tactic(auto)]
 
 ghost use Rattle.std.specs.Prelude.{◌≡◌, true, map};
@@ -53,8 +53,8 @@ pub fn code<T: Drop>(answer: Result<T, Refusal>) -> u8
     }
 }
 
-// An event as it is posted. Only the fields that its sort names are judged (specs/Event.antt); a price is its `amount`. The sort and the kind are numbers: C hands in any, and
-// document 01 names a match on the number with a range arm.
+// An event as it is posted. Only the fields that its sort names are judged (specs/Event.antt); a price stands in `amount`. The sort and the kind are
+// numbers: C hands in any, and document 01 names a match on the number with a range arm.
 #[repr(C)]
 #[derive(Clone, Copy, Debug, PartialEq, Eq, Default)]
 pub struct Event {
@@ -169,7 +169,7 @@ impl From<Result<Figures, Refusal>> for Summary {
     }
 }
 
-// The figures marked (P): what the ledger shows of each row is what the paper says.
+// The figures: what the ledger shows of each row is what the paper says.
 pub fn figures_hold()
     ensures { map shown figures ≡ map (λ (f : Figure). f.expected) figures }
 {}

@@ -1,5 +1,6 @@
 // The limits of an event's fields (code 3).
-// It uses the calendar, the terms' limit of a price, the ledger's event and limits, and in its definitions the terms' `within`. Its promise cites the ledger's specs/Event.antt.
+// It uses the calendar, the terms' limit of a price, the ledger's event and limits, and in its definitions the terms' `within`. Its promise cites the
+// ledger's specs/Event.antt.
 #![tactic(auto)]
 
 ghost use Rattle.std.specs.Prelude.{◌≡◌, cond, ◌&&◌, leb};
