@@ -63,7 +63,7 @@ with_cells a e m = record {
   warned = set a.warned (day_at e) m.warned;
   payments = set a.payments m.number m.payment;
   charges = set a.charges m.place m.sum;
-  prices = set a.prices m.price_at m.price;
+  prices = set a.prices m.price_place m.price_cell;
 }
 
 -- The account after an event, and the answer to it.

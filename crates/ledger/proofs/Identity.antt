@@ -15,7 +15,7 @@ use Rattle.tariff.specs.Tariff.{cost_of}
 use Rattle.terms.specs.declared.Terms.{Terms}
 use Rattle.terms.specs.Terms.{max_share, max_price, valid_terms}
 use Rattle.ledger.specs.declared.Event.{Event}
-use Rattle.ledger.specs.Event.{is_pay, is_reverse, is_credit, is_charge, is_estimate, is_read, is_plan, is_disconnect, is_connect, is_price, in_limits}
+use Rattle.ledger.specs.Event.{is_pay, is_reverse, is_credit, is_charge, is_estimate, is_read, is_plan, is_disconnect, is_connect, is_price}
 use Rattle.ledger.specs.Entries.{usage_cost, Entry, Entries, any, count, sum, sum_of, amount_of, find, or_zero, paid_amount, paid_part, last_day, payment_count, has_number, payment, reversed, price_on, priced, price_days, UsageDay, read_on, estimate_on, wh_on, usage_day, is_blank, is_metered, estimate_cost_of, is_kept}
 use Rattle.ledger.specs.Sums.{kept_total, credit_total, charge_total, read_cost, settled, standing_cost}
 use Rattle.ledger.specs.Rules.{Ledger, may_defer, refusals}
@@ -23,11 +23,11 @@ use Rattle.ledger.specs.Ledger.{opening, Effect, plan_part, pay_effect, reverse_
 use Rattle.ledger.proofs.Cases.{decide, other}
 use Rattle.ledger.proofs.Money.{diff, diff-eq, diff-add, diff-sub, diff-gap, diff-zero, diff-high, by_sign}
 use Rattle.ledger.proofs.Accepted.{Accepted, accepted-by}
-use Rattle.ledger.proofs.Prices.{price-same, price-stays, price-new, price-most, days-same, days-opening, days-new}
+use Rattle.ledger.proofs.Prices.{price-same, price-stays, price-new, price-limits, days-same, days-opening, days-new}
 use Rattle.ledger.specs.Invariant.{All, UsedBefore, Invariant}
 use Rattle.ledger.proofs.Weights.{all_map, sum_same, take_out, one-weighs, given-once}
 
-pub invariant-opening : (t : Terms) → t.share ≤ max_share → t.price ≤ max_price → Invariant t opening
+pub invariant-opening : (t : Terms) → t.share ≤ max_share → (1 ≤ t.price) × (t.price ≤ max_price) → Invariant t opening
 unfolding kept_total credit_total charge_total read_cost standing_cost sum reversed any payment find count price_on price_days
 invariant-opening t h p = record {
   identity = refl;
@@ -43,7 +43,7 @@ invariant-opening t h p = record {
 -- "`share`: 0 to 50"; "`price`: 1 to 99,999"
 pub invariant-valid : (t : Terms) → valid_terms t ≡ true → Invariant t opening
 unfolding valid_terms
-invariant-valid t v = invariant-opening t (grind (arith, nat_tests)) (grind (arith, nat_tests))
+invariant-valid t v = invariant-opening t (grind (arith, nat_tests)) (grind (arith, nat_tests), grind (arith, nat_tests))
 
 pub settled_is : (t : Terms) (l : Ledger) → Invariant t l → l.balance -ℤ pos l.plan +ℤ pos (standing_cost t l.list) ≡ settled t l.list
 unfolding settled
@@ -321,12 +321,10 @@ module _ (t : Terms) (l : Ledger) (e : Event) (s : Invariant t l) (a : Accepted 
       simp y (omega (arith, none-counts (estimate_on u) l.list (rw (eqb-true e.usage u b.1) at (blank-before t l e p s a b.0).1))))
       (λ f. simp f (omega (arith, s.once u)))
 
-  prices-then : (p u : ℕ) → price_on t (entry_of e p ∷ l.list) u ≤ 99999
-  unfolding in_limits
+  prices-then : (p u : ℕ) → (1 ≤ price_on t (entry_of e p ∷ l.list) u) × (price_on t (entry_of e p ∷ l.list) u ≤ 99999)
   prices-then p u = decide (is_price e)
       (λ y. let k : e.sort ≡ 12 = eqb-true e.sort 12 y in
-      let most : e.amount ≤ 99999 = price-most e k a.limits in
-      rw (price-new t (entry_of e p) l.list u y) (decide (leb e.day u) (λ b. simp b most) (λ b. simp b (s.prices u))))
+      rw (price-new t (entry_of e p) l.list u y) (decide (leb e.day u) (λ b. simp b (price-limits e k a.limits)) (λ b. simp b (s.prices u))))
       (λ f. rw (price-same t (entry_of e p) l.list u f) (s.prices u))
 
   days-then : (p : ℕ) → price_days (entry_of e p ∷ l.list) ≤ 16

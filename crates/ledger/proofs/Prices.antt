@@ -1,17 +1,18 @@
 -- Laws of the price in force and of the days that have a price, by one more entry. Assumes nothing.
-use mathlib.Core.Path.{◌≡◌, refl}
-use mathlib.Core.Bool.{true, false, cond, ◌||◌, and-false}
+use mathlib.Core.Path.{◌≡◌, refl, sym}
+use mathlib.Core.Bool.{true, false, cond, ◌||◌, and-false, or-true, true≢false}
 use mathlib.Core.List.{[], ◌∷◌}
 use Prim.Native.Nat.{ℕ, ◌+◌, ◌≤◌, ◌<◌}
 use native.Mathlib.Omega.{arith}
 use lib.Dec.{leb, eqb}
 use borrow.Author.Tests.{lt-leb, lt-ltb, eqb-true}
-use Rattle.std.proofs.lemmas.Bool.{or_parts}
+use Rattle.std.proofs.lemmas.Bool.{and_parts, or_parts}
 use Rattle.std.proofs.lemmas.Bool.Decides.{nat_tests}
 use Rattle.terms.specs.declared.Terms.{Terms}
 use Rattle.ledger.specs.declared.Event.{Event}
-use Rattle.ledger.specs.Event.{is_price, posted_price, in_limits}
-use Rattle.ledger.specs.Entries.{Entry, Entries, any, sum, price_on, priced, price_days}
+use Rattle.ledger.specs.Event.{is_estimate, is_read, is_price, posted_price, in_limits}
+use Rattle.ledger.specs.Entries.{Entry, Entries, any, sum, read_on, estimate_on, price_on, priced, price_days}
+use Rattle.ledger.specs.Invariant.{All, UsedBefore}
 use Rattle.ledger.proofs.Cases.{decide}
 
 -- ---- the price in force
@@ -39,9 +40,21 @@ price-opening t [] u f = refl
 price-opening t (x ∷ l) u f = let n = or_parts (is_price x.event) (any is_price l) f in simp n.0 (price-opening t l u n.1)
 
 -- "from 1 to 99,999"
-pub price-most : (e : Event) → e.sort ≡ 12 → in_limits e ≡ true → e.amount ≤ 99999
+pub price-limits : (e : Event) → e.sort ≡ 12 → in_limits e ≡ true → (1 ≤ e.amount) × (e.amount ≤ 99999)
 unfolding in_limits
-price-most e s h = grind (arith, nat_tests)
+price-limits e s h = (grind (arith, nat_tests), grind (arith, nat_tests))
+
+-- a usage day of which L has an estimate or a read is before d where every entry's is
+pub used-before : (d u : ℕ) (l : Entries) → All (UsedBefore d) l → any (read_on u) l || any (estimate_on u) l ≡ true → u < d
+unfolding any
+used-before d u [] a y = absurd (true≢false (sym y))
+used-before d u (x ∷ l) a y = decide (read_on u x.event)
+    (λ r. let b = and_parts (is_read x.event) (eqb x.event.usage u) r in
+    omega (arith, a.0 (rw b.0 (or-true (is_estimate x.event))), eqb-true x.event.usage u b.1))
+    (λ r. decide (estimate_on u x.event)
+    (λ e. let b = and_parts (is_estimate x.event) (eqb x.event.usage u) e in
+    omega (arith, a.0 (rw b.0 refl), eqb-true x.event.usage u b.1))
+    (λ e. used-before d u l a.1 (simp (r, e) at y)))
 
 -- ---- the days that have a price
 

@@ -1,4 +1,5 @@
--- The events and the limits of their fields (document 01, "Events"; document 02, T-01). The bold words are numbered in the papers' order.
+-- The events and the limits of their fields (document 01, "Events"; document 02, T-01). The bold words are numbered in the paper's order,
+-- then document 02's.
 use Rattle.std.specs.Prelude.{ℕ, Bool, cond, ◌&&◌, ◌||◌, leb, eqb}
 use Rattle.calendar.specs.Calendar.{final_day}
 use Rattle.terms.specs.Terms.{within, max_price}
@@ -60,7 +61,7 @@ amount_in_limits e = within 1 max_amount e.amount
 abbrev pub wh_in_limits : Event → Bool
 wh_in_limits e = leb e.wh max_wh
 
--- "Add an event `price` with one field `price`, from 1 to 99,999": its number stands in the record's `amount`.
+-- "Add an event `price` with one field `price`, from 1 to 99,999": its number stands in the event's `amount`.
 abbrev pub posted_price : Event → ℕ
 posted_price e = e.amount
 

@@ -1,4 +1,4 @@
--- The figures that document 01 marks (P), "Either side of the line", and those of document 02: a row each, "day 0 being a Monday".
+-- The figures that document 01 marks (P), "Either side of the line", and rows for the sentences of document 02's T-01: "day 0 being a Monday".
 use Rattle.std.specs.Prelude.{ℕ, zero, suc, Bool, true, false, List, [], ◌∷◌, ◌++◌, ℤ, pos, neg_ℤ}
 use Rattle.calendar.specs.Calendar.{date}
 use Rattle.terms.specs.declared.Terms.{Terms}
@@ -118,10 +118,10 @@ figures =
     ∷ figure (price 5 2500 ∷ estimate 6 5 30000 ∷ []) 0 750 (neg_ℤ (pos 750)) 0 false
     ∷ figure (price 5 2500 ∷ price 8 9999 ∷ read 9 4 30000 ∷ []) 0 375 (neg_ℤ (pos 375)) 0 false
     ∷ figure (price 5 2500 ∷ price 8 9999 ∷ read 9 7 30000 ∷ []) 0 750 (neg_ℤ (pos 750)) 0 false
-    -- "The settled amount reads each read at its day's price"
+    -- "the old estimate's cost is given back and the read's cost taken", both at day 4's price
     ∷ figure (estimate 5 4 30000 ∷ price 5 2500 ∷ read 6 4 32000 ∷ []) 0 400 (neg_ℤ (pos 400)) 0 false
     -- "a second one on the same day replaces the first"
-    ∷ figure (price 5 2500 ∷ price 5 9999 ∷ price 5 2500 ∷ read 6 5 30000 ∷ []) 0 750 (neg_ℤ (pos 750)) 0 false
+    ∷ figure (price 5 9999 ∷ price 5 2500 ∷ read 6 5 30000 ∷ []) 0 750 (neg_ℤ (pos 750)) 0 false
     -- "The opening price counts as day 0's."
     ∷ figure (price 0 9999 ∷ price 0 2500 ∷ read 1 0 30000 ∷ []) 0 750 (neg_ℤ (pos 750)) 0 false
     -- "17, sixteen days after day 0 have a price already and this day is not among them"

@@ -31,7 +31,7 @@ pub record Invariant (t : Terms) (l : Ledger) : Type 0 where
   pub once : (u : ℕ) → count (estimate_on u) l.list ≤ 1
   -- "u ≥ x" is refused: usage days are before the last day
   pub past : All (UsedBefore (last_day l.list)) l.list
-  -- "from 1 to 99,999": no price in force is above
-  pub prices : (u : ℕ) → price_on t l.list u ≤ max_price
+  -- "from 1 to 99,999": every price in force
+  pub prices : (u : ℕ) → (1 ≤ price_on t l.list u) × (price_on t l.list u ≤ max_price)
   -- at most "sixteen days after day 0 have a price"
   pub days : price_days l.list ≤ max_price_days

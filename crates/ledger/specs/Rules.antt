@@ -55,9 +55,9 @@ MayCut t l e =
     × (barred t l.list e.day ≡ false)
 
 -- The table, each number with when it applies. "Several apply: the lowest number of 1 to 14": its order is the rule. The numbers ascend, so
--- the first that applies is the lowest. 1 is of the terms: "no account made", so the table starts at 2. 17 is "checked after 4".
+-- the first that applies is the lowest. 1 is of the terms: "no account made", so the table starts at 2.
 -- 6: "Once per payment". 12: "R is not counted." 12 and 14: a connect is "granted if service is off and B ≥ `connect`, on any day". 17:
--- "sixteen days after day 0 have a price already and this day is not among them".
+-- "sixteen days after day 0 have a price already and this day is not among them, checked after 4"; no line between them is a price's.
 unfoldable pub refusals : Terms → Ledger → Event → List Rule
 refusals t l e =
     (2, day_refused l e)

@@ -1,4 +1,4 @@
--- The sums over L (document 01, "An accepted event is one that the ledger accepts").
+-- The sums over L (document 01, "An accepted event is one that the ledger accepts"; document 02, T-01).
 use Rattle.std.specs.Prelude.{ℕ, ◌+◌, Bool, not, ◌&&◌, ℤ, pos, ◌-ℤ◌}
 use Rattle.terms.specs.declared.Terms.{Terms}
 use Rattle.ledger.specs.Event.{is_credit, is_charge, is_estimate, is_read}
@@ -16,7 +16,7 @@ credit_total l = sum_of (λ (x : Entry) (before : Entries). is_credit x.event) a
 unfoldable pub charge_total : Entries → ℕ
 charge_total l = sum_of (λ (x : Entry) (before : Entries). is_charge x.event) amount_of l
 
--- "less the cost of each accepted read"
+-- "less the cost of each accepted read"; "The settled amount reads each read at its day's price from then on."
 unfoldable pub read_cost : Terms → Entries → ℕ
 read_cost t l = sum_of (λ (x : Entry) (before : Entries). is_read x.event) (λ (x : Entry). usage_cost t l x.event) l
 

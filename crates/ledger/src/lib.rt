@@ -1,5 +1,5 @@
-// The ledger of demand 3: its definitions, from documents 01 and 02 alone, the figures that document 01 marks (P) and those of document 02, and what
-// holds of the prices; the event, its answer and a month's figures.
+// The ledger of demand 3: its definitions, from documents 01 and 02 alone, the figures that document 01 marks (P) with rows for document 02's
+// sentences, and what holds of the prices; the event, its answer and a month's figures.
 // It uses the calendar's, the tariff's and the terms' definitions, and nothing of the head. Its promises cite specs/Refusals.antt,
 // specs/Figures.antt and specs/PriceLaws.antt.
 #![tactic(auto)]

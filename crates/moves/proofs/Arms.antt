@@ -59,12 +59,12 @@ module _ (t : Terms) (m : Moved) (r : Arrays) (e : Event) where
 pub record Sound (m x : Moved) : Type 0 where
   pub number : x.number < 128
   pub place : x.place < 75
-  pub price_at : x.price_at < 17
+  pub price_place : x.price_place < 17
   pub refused : (x.code ≡ 0 → ⊥) → x ≡ refusing m x.code
 
 -- the places of the cells before
 abbrev pub Placed : Moved → Type 0
-Placed m = (m.number < 128) × (m.place < 75) × (m.price_at < 17)
+Placed m = (m.number < 128) × (m.place < 75) × (m.price_place < 17)
 
 module _ (t : Terms) (m : Moved) (r : Arrays) (e : Event) (h : Placed m) where
   test : (b : Bool) {x y : Moved} → Sound m x → Sound m y → Sound m (cond b x y)
@@ -76,13 +76,13 @@ module _ (t : Terms) (m : Moved) (r : Arrays) (e : Event) (h : Placed m) where
   by-usage (Metered wh cost) b s r = r
 
   no : (k : ℕ) → Sound m (refusing m k)
-  no k = record { number = h.0; place = h.1; price_at = h.2; refused = λ _. refl }
+  no k = record { number = h.0; place = h.1; price_place = h.2; refused = λ _. refl }
 
-  taken : {x : Moved} → x.code ≡ 0 → x.number < 128 → x.place < 75 → x.price_at < 17 → Sound m x
-  taken c n p q = record { number = n; place = p; price_at = q; refused = λ z. absurd (z c) }
+  taken : {x : Moved} → x.code ≡ 0 → x.number < 128 → x.place < 75 → x.price_place < 17 → Sound m x
+  taken c n p q = record { number = n; place = p; price_place = q; refused = λ z. absurd (z c) }
 
   -- accepted, at the same places
-  yes : {x : Moved} → x.code ≡ 0 → x.number ≡ m.number → x.place ≡ m.place → x.price_at ≡ m.price_at → Sound m x
+  yes : {x : Moved} → x.code ≡ 0 → x.number ≡ m.number → x.place ≡ m.place → x.price_place ≡ m.price_place → Sound m x
   yes c n p q = taken c (rw n h.0) (rw p h.1) (rw q h.2)
 
   charge-place : Early t m.totals e → e.sort ≡ 4 → charge_place t e < 75

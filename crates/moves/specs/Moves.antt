@@ -88,7 +88,7 @@ abbrev pub arrays : List ℕ → List ℕ → List ℕ → List DayPrice → Arr
 arrays charges marks warned prices = record { charges = charges; marks = marks; warned = warned; prices = prices }
 
 -- The answer, and the cells: the totals, payment `number`, the event's usage day, the charges summed at `place`, the warning byte of the event's
--- day, the price at `price_at`, and the mark set from day `from` to day `to`, none where `to` is before `from`.
+-- day, the cell of a price at `price_place`, and the mark set from day `from` to day `to`, none where `to` is before `from`.
 pub record Moved : Type 0 where
   pub code : ℕ
   pub value : ℕ
@@ -99,14 +99,14 @@ pub record Moved : Type 0 where
   pub place : ℕ
   pub sum : ℕ
   pub warned : ℕ
-  pub price_at : ℕ
-  pub price : DayPrice
+  pub price_place : ℕ
+  pub price_cell : DayPrice
   pub kind : ℕ
   pub from : ℕ
   pub to : ℕ
 
 abbrev pub move : ℕ → ℕ → Totals → ℕ → Payment → Day → ℕ → ℕ → ℕ → ℕ → DayPrice → ℕ → ℕ → ℕ → Moved
-move code value totals number payment day place sum warned price_at price kind from to = record {
+move code value totals number payment day place sum warned price_place price_cell kind from to = record {
   code = code;
   value = value;
   totals = totals;
@@ -116,8 +116,8 @@ move code value totals number payment day place sum warned price_at price kind f
   place = place;
   sum = sum;
   warned = warned;
-  price_at = price_at;
-  price = price;
+  price_place = price_place;
+  price_cell = price_cell;
   kind = kind;
   from = from;
   to = to;
@@ -125,25 +125,25 @@ move code value totals number payment day place sum warned price_at price kind f
 
 -- m with this answer and these totals; below, with another payment, usage day, sum of charges, warning byte, price or mark
 abbrev pub answering : Moved → ℕ → ℕ → Totals → Moved
-answering m code value s = move code value s m.number m.payment m.day m.place m.sum m.warned m.price_at m.price m.kind m.from m.to
+answering m code value s = move code value s m.number m.payment m.day m.place m.sum m.warned m.price_place m.price_cell m.kind m.from m.to
 
 abbrev pub paying : Moved → ℕ → Payment → Moved
-paying m number p = move m.code m.value m.totals number p m.day m.place m.sum m.warned m.price_at m.price m.kind m.from m.to
+paying m number p = move m.code m.value m.totals number p m.day m.place m.sum m.warned m.price_place m.price_cell m.kind m.from m.to
 
 abbrev pub on_day : Moved → Usage → Moved
-on_day m u = move m.code m.value m.totals m.number m.payment (record { usage = u }) m.place m.sum m.warned m.price_at m.price m.kind m.from m.to
+on_day m u = move m.code m.value m.totals m.number m.payment (record { usage = u }) m.place m.sum m.warned m.price_place m.price_cell m.kind m.from m.to
 
 abbrev pub charging : Moved → ℕ → ℕ → Moved
-charging m place sum = move m.code m.value m.totals m.number m.payment m.day place sum m.warned m.price_at m.price m.kind m.from m.to
+charging m place sum = move m.code m.value m.totals m.number m.payment m.day place sum m.warned m.price_place m.price_cell m.kind m.from m.to
 
 abbrev pub warning : Moved → Moved
-warning m = move m.code m.value m.totals m.number m.payment m.day m.place m.sum 1 m.price_at m.price m.kind m.from m.to
+warning m = move m.code m.value m.totals m.number m.payment m.day m.place m.sum 1 m.price_place m.price_cell m.kind m.from m.to
 
 abbrev pub pricing : Moved → ℕ → DayPrice → Moved
-pricing m at price = move m.code m.value m.totals m.number m.payment m.day m.place m.sum m.warned at price m.kind m.from m.to
+pricing m place cell = move m.code m.value m.totals m.number m.payment m.day m.place m.sum m.warned place cell m.kind m.from m.to
 
 abbrev pub marking : Moved → ℕ → ℕ → ℕ → Moved
-marking m kind from to = move m.code m.value m.totals m.number m.payment m.day m.place m.sum m.warned m.price_at m.price kind from to
+marking m kind from to = move m.code m.value m.totals m.number m.payment m.day m.place m.sum m.warned m.price_place m.price_cell kind from to
 
 -- a refusal moves nothing
 abbrev pub refusing : Moved → ℕ → Moved
@@ -342,7 +342,7 @@ mark_to None = 0
 -- a move of the code, which is of an event that nothing refuses
 abbrev pub accepted : Move → Moved
 accepted m =
-    move 0 m.value m.totals m.number m.payment m.day m.place m.sum m.warned m.price_at m.price
+    move 0 m.value m.totals m.number m.payment m.day m.place m.sum m.warned m.price_place m.price_cell
     (mark_kind m.mark) (mark_from m.mark) (mark_to m.mark)
 
 -- a move of the cells, or a refusal of the event, which leaves them as they were
@@ -355,4 +355,4 @@ pub record IsMove (t : Terms) (s : Totals) (payment : Payment) (day : Day) (r : 
   pub move : moved_of (cells_before s payment day r e) x ≡ move_of t (cells_before s payment day r e) r e
   pub number : (moved_of (cells_before s payment day r e) x).number < max_payments
   pub place : (moved_of (cells_before s payment day r e) x).place < charge_places
-  pub price_at : (moved_of (cells_before s payment day r e) x).price_at < price_cells
+  pub price_place : (moved_of (cells_before s payment day r e) x).price_place < price_cells

@@ -49,8 +49,8 @@ impl<'a> Checked<'a> {
             place: 0,
             sum: cells.charges[0],
             warned: cells.warned[(event.day % DAY_COUNT) as usize],
-            price_at: 0,
-            price: cells.prices[0],
+            price_place: 0,
+            price_cell: cells.prices[0],
             mark: None,
         };
         Ok(Checked {

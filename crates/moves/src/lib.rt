@@ -104,9 +104,9 @@ pub struct Move {
     pub sum: u64,
     // the warning byte of the event's day, 0 or 1: C's record has a byte a day
     pub warned: u8,
-    // the price at `price_at`
-    pub price_at: u32,
-    pub price: DayPrice,
+    // the cell of the prices at `price_place`
+    pub price_place: u32,
+    pub price_cell: DayPrice,
     pub mark: Option<Mark>,
 }
 

@@ -13,15 +13,15 @@ impl Checked<'_> {
         ensures { Gives self.entry result (λ t m e. price_of t m self.entry.cells.prices.now e) }
     {
         let e = self.event;
-        let price_at = tariff::place(self.cells.prices, e.day);
-        if price_at as usize >= PRICE_CELLS {
+        let price_place = tariff::price_place(self.cells.prices, e.day);
+        if price_place as usize >= PRICE_CELLS {
             return Err(Refusal::Prices);
         }
         Ok(Move {
             value: 0,
             totals: self.before.totals.tallied(e.day),
-            price_at,
-            price: DayPrice {
+            price_place,
+            price_cell: DayPrice {
                 day: e.day,
                 price: e.amount,
             },

@@ -71,7 +71,7 @@ moved-in n e m = λ k. record {
   warned = set n.warned (day_at e) m.warned;
   payments = (map-set payment_in n.payments m.number (payment_numbers m.payment) ∙ ap (set (map payment_in n.payments) m.number) (payment-back m.payment)) k;
   charges = set n.charges m.place m.sum;
-  prices = set n.prices m.price_at m.price;
+  prices = set n.prices m.price_place m.price_cell;
 }
 
 -- the same of an account's own numbers
@@ -81,7 +81,7 @@ moved-of a e m = λ k. record {
   totals = totals_numbers m.totals;
   charges = set a.charges m.place m.sum;
   terms = a.terms;
-  prices = set a.prices m.price_at m.price;
+  prices = set a.prices m.price_place m.price_cell;
   days = sym (map-set day_numbers a.days (usage_at e) m.day) k;
   payments = sym (map-set payment_numbers a.payments m.number m.payment) k;
   spare = 0;

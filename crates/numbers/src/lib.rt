@@ -246,7 +246,7 @@ impl Numbers {
     // The cells of a move, each in its own place.
     #[tactic(auto, unfolding(marks::specs::Marks::marked, marks::specs::Marks::mark_range))]
     fn write(&mut self, e: Event, m: Move)
-        requires { (m.number < max_payments) × (m.place < charge_places) × (m.price_at < price_cells) }
+        requires { (m.number < max_payments) × (m.place < charge_places) × (m.price_place < price_cells) }
         ensures { self.new ≡ with_move self.old e (accepted m) }
     {
         self.totals = TotalsNumbers::from(m.totals);
@@ -254,7 +254,7 @@ impl Numbers {
         self.days[(e.usage % DAY_COUNT) as usize] = DayNumbers::from(m.day);
         self.charges[m.place as usize] = m.sum;
         self.warned[(e.day % DAY_COUNT) as usize] = m.warned;
-        self.prices[m.price_at as usize] = m.price;
+        self.prices[m.price_place as usize] = m.price_cell;
         if let Some(mark) = m.mark {
             marks::set(&mut self.marks, mark.kind, mark.from, mark.to);
         }

@@ -59,7 +59,7 @@ left k a e m =
     (cond (used k) m.day c.day)
     (cond (eqb k 4) m.place c.place) (cond (eqb k 4) m.sum c.sum)
     (cond (eqb k 7) m.warned c.warned)
-    (cond (eqb k 12) m.price_at c.price_at) (cond (eqb k 12) m.price c.price)
+    (cond (eqb k 12) m.price_place c.price_place) (cond (eqb k 12) m.price_cell c.price_cell)
     (cond (eqb k 8) m.kind c.kind) (cond (eqb k 8) m.from c.from) (cond (eqb k 8) m.to c.to)
 
 -- What a sort's own cell shows after the event, where L is then l.
@@ -128,7 +128,7 @@ module _ (a : Account) (l : Ledger) (e : Event) (g : Agree a.terms a l) (s : Inv
   prices-law : PricesAgree t b.prices after
   unfolding cells_before
   prices-law = decide (eqb k 12) (λ y. own 12 y) (λ f.
-      rw (simp f at (ap (λ (y : Moved). y.price_at) w), simp f at (ap (λ (y : Moved). y.price) w), set-get_or a.prices 0 (day_price 0 0))
+      rw (simp f at (ap (λ (y : Moved). y.price_place) w), simp f at (ap (λ (y : Moved). y.price_cell) w), set-get_or a.prices 0 (day_price 0 0))
       (prices-stay t a e x.part l.list g.kept (sort-is 12 f) (taken a l g e h s z).order))
 
   -- ---- the totals that no sort but its own writes

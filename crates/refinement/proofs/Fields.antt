@@ -17,8 +17,7 @@ use Rattle.ledger.specs.Months.{charges_in, month_of}
 use Rattle.std.proofs.lemmas.Bool.{and_parts}
 use Rattle.ledger.specs.Invariant.{All, UsedBefore}
 use Rattle.ledger.proofs.Cases.{decide, other}
-use Rattle.ledger.proofs.Prices.{price-same, price-stays}
-use Rattle.ledger.proofs.PriceLaws.{used-before}
+use Rattle.ledger.proofs.Prices.{price-same, price-stays, used-before}
 use Rattle.refinement.specs.Agree.{warned_on}
 
 module _ (e : Event) (p : ℕ) (l : Entries) where

@@ -43,7 +43,7 @@ module _ (t : Terms) (e : Event) (p : ℕ) (l : Entries) (h : in_limits e ≡ tr
       (λ f. simp f (omega (arith, c m k))))
 
   -- the cost held of a day that has this event's estimate
-  estimate-held : ((u : ℕ) → price_on t l u ≤ 99999) → (u : ℕ) → estimate_on u e ≡ true → estimate_cost_of (usage_day t (F.more e p l) u) ≤ 10000000
+  estimate-held : ((u : ℕ) → (1 ≤ price_on t l u) × (price_on t l u ≤ 99999)) → (u : ℕ) → estimate_on u e ≡ true → estimate_cost_of (usage_day t (F.more e p l) u) ≤ 10000000
   estimate-held q u y =
       let i : is_estimate e ≡ true = (and_parts (is_estimate e) (eqb e.usage u) y).0 in
       let s : e.sort ≡ 5 = eqb-true e.sort 5 i in
@@ -52,9 +52,9 @@ module _ (t : Terms) (e : Event) (p : ℕ) (l : Entries) (h : in_limits e ≡ tr
       subst (λ (v : ℕ). estimate_cost_of (usage_day t (F.more e p l) v) ≤ 10000000) (eqb-true e.usage u (and_parts (is_estimate e) (eqb e.usage u) y).1)
       (decide (any (read_on e.usage) l)
       (λ m. rw (F.usage-read-before e p l t r m) (omega arith))
-      (λ n. rw (F.usage-estimated e p l t i r n) (omega (arith, cost-limit e.wh (price_on t l e.usage) w (q e.usage)))))
+      (λ n. rw (F.usage-estimated e p l t i r n) (omega (arith, cost-limit e.wh (price_on t l e.usage) w (q e.usage).1))))
 
-  pub held-keep : ((u : ℕ) → price_on t l u ≤ 99999) → All (UsedBefore e.day) l → ((u : ℕ) → estimate_cost_of (usage_day t l u) ≤ 10000000) → (u : ℕ) → estimate_cost_of (usage_day t (F.more e p l) u) ≤ 10000000
+  pub held-keep : ((u : ℕ) → (1 ≤ price_on t l u) × (price_on t l u ≤ 99999)) → All (UsedBefore e.day) l → ((u : ℕ) → estimate_cost_of (usage_day t l u) ≤ 10000000) → (u : ℕ) → estimate_cost_of (usage_day t (F.more e p l) u) ≤ 10000000
   held-keep q b k u = decide (read_on u e)
       (λ y. let c = and_parts (is_read e) (eqb e.usage u) y in
       subst (λ (v : ℕ). estimate_cost_of (usage_day t (F.more e p l) v) ≤ 10000000) (eqb-true e.usage u c.1) (rw (F.usage-metered e p l t c.0) (omega arith)))

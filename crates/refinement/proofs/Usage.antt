@@ -58,7 +58,7 @@ module _ (a : Account) (l : Ledger) (e : Event) (g : Agree a.terms a l) (s : Inv
     price-is = g.kept.prices.force e.usage used
 
     price-most : usage_price t a.prices e ≤ 99999
-    price-most = rw price-is (s.prices e.usage)
+    price-most = rw price-is (s.prices e.usage).1
 
     cost-is : wh_cost t a.prices e ≡ usage_cost t l.list e
     cost-is = ap (cost_of e.wh) price-is

@@ -18,16 +18,16 @@ no_price = day_price day_count 0
 
 -- "The opening price counts as day 0's."
 abbrev pub opening_prices : ℕ → List DayPrice
-opening_prices opening = day_price 0 opening ∷ replicate max_price_days no_price
+opening_prices price = day_price 0 price ∷ replicate max_price_days no_price
 
--- The price in force on day u: the cells are passed in order up to the first whose day is above u; that of the last passed, the opening price
--- where none is.
+-- The price in force on day u: the cells are passed in order up to the first whose day is above u; that of the last passed, or the price given
+-- where none is, for which the opening price is given.
 unfoldable pub in_force : ℕ → List DayPrice → ℕ → ℕ
-in_force opening [] u = opening
-in_force opening (c ∷ cells) u = cond (leb c.day u) (in_force c.price cells u) opening
+in_force price [] u = price
+in_force price (c ∷ cells) u = cond (leb c.day u) (in_force c.price cells u) price
 
--- The place of a price posted on day x: the first cell whose day is not before x, so the day's own or one that is not taken; past the cells
--- where there is none.
+-- The place of a price posted on day x: the first cell whose day is not before x, which in an account is the day's own or the first that is not
+-- taken; past the cells where there is none.
 abbrev pub price_place : List DayPrice → ℕ → ℕ
 price_place cells x = prefix_len (λ (c : DayPrice). ltb c.day x) cells
 

@@ -30,8 +30,8 @@ pub const PRICE_CELLS: usize = 17;
 pub type Prices = [DayPrice; PRICE_CELLS];
 
 // Those of a fresh account: day 0's is the opening price.
-pub fn opening_prices(opening: u32) -> Prices
-    ensures { result ≡ opening_prices opening }
+pub fn opening_prices(opening_price: u32) -> Prices
+    ensures { result ≡ opening_prices opening_price }
 {
     let mut prices = [DayPrice {
         day: DAY_COUNT,
@@ -39,17 +39,17 @@ pub fn opening_prices(opening: u32) -> Prices
     }; PRICE_CELLS];
     prices[0] = DayPrice {
         day: 0,
-        price: opening,
+        price: opening_price,
     };
     prices
 }
 
 // The price in force on a day, for any cells.
 #[tactic(auto, unfolding(crate::specs::Prices::in_force))]
-pub fn in_force(prices: &Prices, opening: u32, day: u32) -> u32
-    ensures { result ≡ in_force opening prices.now day }
+pub fn in_force(prices: &Prices, opening_price: u32, day: u32) -> u32
+    ensures { result ≡ in_force opening_price prices.now day }
 {
-    let mut price = opening;
+    let mut price = opening_price;
     for cell in prices.iter() {
         if cell.day > day {
             break;
@@ -60,7 +60,7 @@ pub fn in_force(prices: &Prices, opening: u32, day: u32) -> u32
 }
 
 // The place of a price posted on the day; past the cells where none is left for it.
-pub fn place(prices: &Prices, day: u32) -> u32
+pub fn price_place(prices: &Prices, day: u32) -> u32
     ensures { result ≡ price_place prices.now day }
 {
     prices.iter().take_while(|cell| cell.day < day).count() as u32
