@@ -99,7 +99,7 @@ enum {
 /* The opening terms. */
 typedef struct {
     uint32_t year, month, day; /* the opening date, 2000-01-01 to 2099-12-31 */
-    uint32_t price;            /* the opening price, 1 to 99,999 hundredths of a cent per kWh */
+    uint32_t price;            /* the opening price, 1 to 99,999 hundredths of a cent per kWh; it stays when a price event comes */
     uint32_t connect;          /* connection balance, 0 to 7,500 */
     uint32_t cutoff;           /* disconnection balance, 0 to 1,000 and at most connect */
     uint32_t share;            /* per cent of a payment that goes to a deferred payment plan, 0 to 50 */
@@ -109,7 +109,7 @@ typedef struct {
 typedef struct {
     uint32_t sort;
     uint32_t day;      /* 0 to 399, not before the last accepted event's */
-    uint32_t amount;   /* pay, credit, charge: 1 to 10,000,000; price: the price, 1 to 99,999, in force from `day` on */
+    uint32_t amount;   /* pay, credit, charge: 1 to 10,000,000 cents; price: 1 to 99,999 hundredths of a cent per kWh, from `day` on */
     uint32_t number;   /* reverse: the payment's number, the value that its pay was answered */
     uint32_t kind;     /* charge 1 to 5, mark 1 to 3, plan 1 or 2 */
     uint32_t usage;    /* estimate, read: the usage day, before `day` */
@@ -141,10 +141,13 @@ typedef struct {
     uint32_t day, amount, part, reversed; /* reversed: 1 is yes, any other number no */
 } prepay_payment;
 
-/* A price in force from a day on. The first of an account's cells is day 0's, the next ones are those of later days, in order; a cell that is
- * not taken has day 400. The price of usage day u is that of the last cell before the first whose day is above u (of the last of all where
- * there is none), and the opening price of the terms where that is the first cell. A price posted on day x goes to the first cell whose day
- * is not below x, as x and the price; where there is none it gets 17. No other event changes a cell. */
+/* A price in force for usage days from a day on. A usage day costs by the price in force on it, whenever its estimate or read is posted, and
+ * no later event changes that cost. A second price of a day replaces the first; one of day 0 replaces the opening price, and takes none of
+ * the sixteen places.
+ * The first of an account's cells is day 0's, the next ones are those of later days, in order; a cell that is not taken has day 400. For
+ * usage day u the cells are passed up to the first whose day is above u: the price is that of the last passed, or the terms' where none is,
+ * as never in an account. A price posted on day x goes to the first cell whose day is not below x, as x and the price; where there is none
+ * it gets 17. No other event changes a cell. */
 typedef struct {
     uint32_t day, price;
 } prepay_price;

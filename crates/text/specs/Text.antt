@@ -61,7 +61,7 @@ sort_row sort word fields = record { sort = sort; word = bytes word; fields = fi
 abbrev pub under : String → Field → FieldLine
 under key field = field_line (bytes key) field
 
--- "Values of `do` are the bold words", numbered in the papers' order; then "its fields in the order named above, under keys .."
+-- "Values of `do` are the bold words", numbered in the paper's order, then document 02's; then "its fields in the order named above, under keys .."
 abbrev pub sorts : List SortRow
 sorts =
     sort_row 1 "pay" (under "amount" Amount ∷ [])
