@@ -45,16 +45,16 @@ unfolding in_limits
 price-limits e s h = (grind (arith, nat_tests), grind (arith, nat_tests))
 
 -- a usage day of which L has an estimate or a read is before d where every entry's is
-pub used-before : (d u : ℕ) (l : Entries) → All (UsedBefore d) l → any (read_on u) l || any (estimate_on u) l ≡ true → u < d
+pub usage-before : (d u : ℕ) (l : Entries) → All (UsedBefore d) l → any (read_on u) l || any (estimate_on u) l ≡ true → u < d
 unfolding any
-used-before d u [] a y = absurd (true≢false (sym y))
-used-before d u (x ∷ l) a y = decide (read_on u x.event)
+usage-before d u [] a y = absurd (true≢false (sym y))
+usage-before d u (x ∷ l) a y = decide (read_on u x.event)
     (λ r. let b = and_parts (is_read x.event) (eqb x.event.usage u) r in
     omega (arith, a.0 (rw b.0 (or-true (is_estimate x.event))), eqb-true x.event.usage u b.1))
     (λ r. decide (estimate_on u x.event)
     (λ e. let b = and_parts (is_estimate x.event) (eqb x.event.usage u) e in
     omega (arith, a.0 (rw b.0 refl), eqb-true x.event.usage u b.1))
-    (λ e. used-before d u l a.1 (simp (r, e) at y)))
+    (λ e. usage-before d u l a.1 (simp (r, e) at y)))
 
 -- ---- the days that have a price
 

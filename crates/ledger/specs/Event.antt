@@ -41,10 +41,6 @@ is_connect e = eqb e.sort 11
 abbrev pub is_price : Event → Bool
 is_price e = eqb e.sort 12
 
--- the last sort's number
-abbrev pub sort_count : ℕ
-sort_count = 12
-
 -- "amount (1 to 10,000,000)": the largest, in cents
 abbrev pub max_amount : ℕ
 max_amount = 10000000

@@ -122,11 +122,15 @@ figures =
     ∷ figure (estimate 5 4 30000 ∷ price 5 2500 ∷ read 6 4 32000 ∷ []) 0 400 (neg_ℤ (pos 400)) 0 false
     -- "a second one on the same day replaces the first"
     ∷ figure (price 5 9999 ∷ price 5 2500 ∷ read 6 5 30000 ∷ []) 0 750 (neg_ℤ (pos 750)) 0 false
+    ∷ figure (price 5 2500 ∷ price 5 9999 ∷ read 6 5 30000 ∷ []) 0 3000 (neg_ℤ (pos 3000)) 0 false
     -- "The opening price counts as day 0's."
     ∷ figure (price 0 9999 ∷ price 0 2500 ∷ read 1 0 30000 ∷ []) 0 750 (neg_ℤ (pos 750)) 0 false
     -- "17, sixteen days after day 0 have a price already and this day is not among them"
-    ∷ figure (price 0 2500 ∷ daily_prices 16) 0 0 (pos 0) 0 false
+    ∷ figure (price 0 2500 ∷ price 1 2500 ∷ daily_prices 16) 0 0 (pos 0) 0 false
     ∷ figure (daily_prices 17) 17 0 (pos 0) 0 false
     ∷ figure (daily_prices 16 ++ (price 16 1 ∷ [])) 0 0 (pos 0) 0 false
     ∷ figure (daily_prices 16 ++ (price 17 0 ∷ [])) 3 0 (pos 0) 0 false
+    ∷ figure (daily_prices 16 ++ (price 400 2500 ∷ [])) 2 0 (pos 0) 0 false
+    -- B, R and service stay
+    ∷ figure (charge 0 6000 ∷ plan 0 2 ∷ connect 0 ∷ price 0 2500 ∷ []) 0 0 (pos 5000) 11000 true
     ∷ []

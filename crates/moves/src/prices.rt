@@ -14,7 +14,7 @@ impl Checked<'_> {
     {
         let e = self.event;
         let price_place = tariff::price_place(self.cells.prices, e.day);
-        if price_place as usize >= PRICE_CELLS {
+        if price_place >= PRICE_CELLS {
             return Err(Refusal::Prices);
         }
         Ok(Move {

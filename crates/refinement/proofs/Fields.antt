@@ -17,7 +17,7 @@ use Rattle.ledger.specs.Months.{charges_in, month_of}
 use Rattle.std.proofs.lemmas.Bool.{and_parts}
 use Rattle.ledger.specs.Invariant.{All, UsedBefore}
 use Rattle.ledger.proofs.Cases.{decide, other}
-use Rattle.ledger.proofs.Prices.{price-same, price-stays, used-before}
+use Rattle.ledger.proofs.Prices.{price-same, price-stays, usage-before}
 use Rattle.refinement.specs.Agree.{warned_on}
 
 module _ (e : Event) (p : ℕ) (l : Entries) where
@@ -70,9 +70,9 @@ module _ (e : Event) (p : ℕ) (l : Entries) where
   pub usage-same : (t : Terms) (u : ℕ) → All (UsedBefore e.day) l → estimate_on u e ≡ false → read_on u e ≡ false → usage_day t more u ≡ usage_day t l u
   unfolding usage_day any
   usage-same t u a f g = decide (any (read_on u) l)
-      (λ r. simp (f, g, r, wh-same read_on u g, price-stays t (record { event = e; part = p }) l u (used-before e.day u l a (simp r))))
+      (λ r. simp (f, g, r, wh-same read_on u g, price-stays t (record { event = e; part = p }) l u (usage-before e.day u l a (simp r))))
       (λ r. decide (any (estimate_on u) l)
-      (λ i. simp (f, g, r, i, wh-same estimate_on u f, price-stays t (record { event = e; part = p }) l u (used-before e.day u l a (simp (r, i)))))
+      (λ i. simp (f, g, r, i, wh-same estimate_on u f, price-stays t (record { event = e; part = p }) l u (usage-before e.day u l a (simp (r, i)))))
       (λ i. simp (f, g, r, i)))
 
   pub usage-estimated : (t : Terms) → is_estimate e ≡ true → is_read e ≡ false → any (read_on e.usage) l ≡ false

@@ -3,7 +3,7 @@
 use Prim.Native.Nat.{ℕ, suc, ◌+◌, ◌*◌, ◌-◌, ◌≤◌, ◌<◌}
 use native.Mathlib.Omega.{arith}
 use mathlib.Core.Path.{◌≡◌, refl, sym, ap, ◌∙◌, subst}
-use mathlib.Core.Bool.{Bool, true, false, cond, not, ◌&&◌, and-false, and-true, or-true, true≢false}
+use mathlib.Core.Bool.{Bool, true, false, cond, not, ◌&&◌, ◌||◌, and-false, and-true, or-true, true≢false}
 use mathlib.Core.Logic.{inl}
 use lib.ListN.{length, get_or, set}
 use lib.Seq.{get_or-set_same, get_or-set_other}
@@ -138,9 +138,13 @@ module _ (t : Terms) (a : Account) (e : Event) (p : ℕ) (l : Entries) (k : Cell
     force = λ u r. k.prices.force u r ∙ sym (price-same t (record { event = e; part = p }) l u f);
   }
 
+  -- where the event's day has its cell, if it is a price
+  place-law : last_day l ≤ e.day → e.day < 400 → price_place a.prices e.day + cond (eqb e.day 0 || priced l e.day) 1 0 ≡ suc (price_days l)
+  place-law h d = rw (k.prices.days e.day d) at (place-is (suc (price_days l)) 0 (last_day l) e.day a.prices k.prices.taken h d)
+
   -- the cells are full for the event's day where the ledger has no room for it
   pub prices-full : price_days l ≤ 16 → last_day l ≤ e.day → e.day < 400 → leb 17 (price_place a.prices e.day) ≡ (leb 16 (price_days l) && not (priced l e.day))
-  prices-full m h d = let q = rw (k.prices.days e.day d) at (place-is (suc (price_days l)) 0 (last_day l) e.day a.prices k.prices.taken h d) in decide (priced l e.day)
+  prices-full m h d = let q = place-law h d in decide (priced l e.day)
       (λ y. simp (y, and-false) (lt-leb 17 (price_place a.prices e.day) (omega (arith, simp (y, or-true) at q))))
       (λ y. decide (eqb e.day 0)
       (λ z. let o : last_day l ≡ 0 = omega (arith, eqb-true e.day 0 z) in
@@ -169,7 +173,7 @@ module _ (t : Terms) (a : Account) (e : Event) (p : ℕ) (l : Entries) (k : Cell
       laws = with_price-is (suc (price_days l)) 0 (last_day l) e.day e.amount a.prices k.prices.taken (omega arith) h d (rw n r)
 
       place : price_days (F.more e p l) ≡ price_place a.prices e.day
-      place = let q = rw (k.prices.days e.day d) at (place-is (suc (price_days l)) 0 (last_day l) e.day a.prices k.prices.taken h d) in decide (ltb 0 e.day)
+      place = let q = place-law h d in decide (ltb 0 e.day)
           (λ z. let f : eqb e.day 0 ≡ false = ne_eqb e.day 0 (λ i. omega (arith, ltb-true 0 e.day z)) in
           rw (days-new x l y (ltb-true 0 e.day z)) (decide (priced l e.day) (λ i. simp i (omega (arith, simp (f, i) at q))) (λ i. simp i (omega (arith, simp (f, i) at q)))))
           (λ z. let o : e.day ≡ 0 = omega (arith, ltb-false 0 e.day z) in

@@ -1,5 +1,5 @@
 -- Laws of the prices by day: a price posted, and what is in force then. Assumes nothing.
-use mathlib.Core.Path.{◌≡◌, refl, sym}
+use mathlib.Core.Path.{◌≡◌, refl, sym, ap}
 use mathlib.Core.Bool.{true, false, cond, ◌||◌, or-true}
 use mathlib.Core.List.{List, [], ◌∷◌}
 use Prim.Native.Nat.{ℕ, zero, suc, ◌+◌, ◌≤◌, ◌<◌}
@@ -16,16 +16,16 @@ use Rattle.tariff.specs.Prices.{day_price, no_price, in_force, price_place, has_
 none-priced : (cells : List DayPrice) (d : ℕ) → NoneTaken cells → d < 400 → has_price cells d ≡ false
 unfolding has_price
 none-priced [] d t h = refl
-none-priced (c ∷ cells) d t h = simp (ne_eqb c.day d (λ e. omega (arith, t.0))) (none-priced cells d t.1 h)
+none-priced (c ∷ cells) d t h = simp (ne_eqb c.day d (λ e. omega (arith, ap (λ (x : DayPrice). x.day) t.0))) (none-priced cells d t.1 h)
 
 none-force : (cells : List DayPrice) (o u : ℕ) → NoneTaken cells → u < 400 → in_force o cells u ≡ o
 unfolding in_force
 none-force [] o u t h = refl
-none-force (c ∷ cells) o u t h = simp (lt-leb c.day u (omega (arith, t.0)))
+none-force (c ∷ cells) o u t h = simp (lt-leb c.day u (omega (arith, ap (λ (x : DayPrice). x.day) t.0)))
 
 none-place : (cells : List DayPrice) (x : ℕ) → NoneTaken cells → x < 400 → price_place cells x ≡ 0
 none-place [] x t h = refl
-none-place (c ∷ cells) x t h = simp (le-ltb c.day x (omega (arith, t.0)))
+none-place (c ∷ cells) x t h = simp (le-ltb c.day x (omega (arith, ap (λ (x : DayPrice). x.day) t.0)))
 
 -- ---- cells of which some are taken
 
@@ -39,11 +39,6 @@ none-after (suc n) least last (c ∷ cells) t h = omega (arith, t.0, t.1)
 pub taken-first : (n : ℕ) (cells : List DayPrice) → Taken (suc n) 0 0 cells → n ≡ 0
 taken-first n [] t = absurd t
 taken-first n (c ∷ cells) t = none-after n (suc c.day) 0 cells t.2 (omega arith)
-
-pub taken-length : (n least last : ℕ) (cells : List DayPrice) → Taken n least last cells → n ≤ length cells
-taken-length zero least last cells t = omega arith
-taken-length (suc n) least last [] t = absurd t
-taken-length (suc n) least last (c ∷ cells) t = omega (arith, taken-length n (suc c.day) last cells t.2)
 
 pub taken-longer : (n least last later : ℕ) (cells : List DayPrice) → Taken n least last cells → last ≤ later → Taken n least later cells
 taken-longer zero least last later cells t h = t
@@ -69,7 +64,7 @@ place-here : (c : DayPrice) (cells : List DayPrice) (x : ℕ) → ltb c.day x �
 place-here c cells x f = simp f
 
 -- the cells with it in place k
-abbrev pub with_price : List DayPrice → ℕ → ℕ → ℕ → List DayPrice
+abbrev with_price : List DayPrice → ℕ → ℕ → ℕ → List DayPrice
 with_price cells k x p = set cells k (day_price x p)
 
 pub record WithPrice (cells : List DayPrice) (k least x p : ℕ) : Type 0 where
@@ -82,11 +77,13 @@ pub with_price-is : (n least last x p : ℕ) (cells : List DayPrice) → Taken n
     → price_place cells x < length cells → WithPrice cells (price_place cells x) least x p
 unfolding in_force has_price
 with_price-is zero least last x p [] t g h k r = absurd (omega (arith, r))
-with_price-is zero least last x p (c ∷ cells) t g h k r = rw (place-here c cells x (le-ltb c.day x (omega (arith, t.0)))) (record {
-  taken = (g, omega arith, t.1);
-  force = λ o u v. simp (lt-leb c.day u (omega (arith, t.0)), none-force cells p u t.1 v);
-  days = λ d v. simp (ne_eqb c.day d (λ e. omega (arith, t.0)));
-})
+with_price-is zero least last x p (c ∷ cells) t g h k r =
+    let free : c.day ≡ 400 = ap (λ (y : DayPrice). y.day) t.0 in
+    rw (place-here c cells x (le-ltb c.day x (omega arith))) (record {
+      taken = (g, omega arith, t.1);
+      force = λ o u v. simp (lt-leb c.day u (omega arith), none-force cells p u t.1 v);
+      days = λ d v. simp (ne_eqb c.day d (λ e. omega arith));
+    })
 with_price-is (suc n) least last x p [] t g h k r = absurd t
 with_price-is (suc n) least last x p (c ∷ cells) t g h k r = decide (ltb c.day x)
     (λ y. let s = with_price-is n (suc c.day) last x p cells t.2 (ltb-true c.day x y) h k (omega (arith, place-next c cells x y)) in

@@ -39,7 +39,7 @@ has_price (c ∷ cells) d = eqb c.day d || has_price cells d
 -- no cell is taken
 abbrev pub NoneTaken : List DayPrice → Type 0
 NoneTaken [] = Unit {0}
-NoneTaken (c ∷ cells) = (c.day ≡ day_count) × NoneTaken cells
+NoneTaken (c ∷ cells) = (c ≡ no_price) × NoneTaken cells
 
 -- The first n cells are taken, by days that ascend from `least` or later up to `last` or earlier, and no other is.
 abbrev pub Taken : ℕ → ℕ → ℕ → List DayPrice → Type 0

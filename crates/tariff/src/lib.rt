@@ -25,9 +25,9 @@ pub struct DayPrice {
 }
 
 // Day 0's price and those of sixteen later days.
-pub const PRICE_CELLS: usize = 17;
+pub const PRICE_CELLS: u32 = 17;
 
-pub type Prices = [DayPrice; PRICE_CELLS];
+pub type Prices = [DayPrice; PRICE_CELLS as usize];
 
 // Those of a fresh account: day 0's is the opening price.
 pub fn opening_prices(opening_price: u32) -> Prices
@@ -36,7 +36,7 @@ pub fn opening_prices(opening_price: u32) -> Prices
     let mut prices = [DayPrice {
         day: DAY_COUNT,
         price: 0,
-    }; PRICE_CELLS];
+    }; PRICE_CELLS as usize];
     prices[0] = DayPrice {
         day: 0,
         price: opening_price,
@@ -50,7 +50,7 @@ pub fn in_force(prices: &Prices, opening_price: u32, day: u32) -> u32
     ensures { result ≡ in_force opening_price prices.now day }
 {
     let mut price = opening_price;
-    for cell in prices.iter() {
+    for cell in prices {
         if cell.day > day {
             break;
         }
