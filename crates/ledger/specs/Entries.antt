@@ -101,12 +101,12 @@ unfoldable pub priced : Entries → ℕ → Bool
 priced l d = ltb 0 d && any (λ (e : Event). is_price e && eqb e.day d) l
 
 -- a price that is the first of its day, which comes after day 0
-abbrev pub opens_day : Entry → Entries → Bool
-opens_day x before = is_price x.event && (ltb 0 x.event.day && not (priced before x.event.day))
+abbrev pub first_of_day : Entry → Entries → Bool
+first_of_day x before = is_price x.event && (ltb 0 x.event.day && not (priced before x.event.day))
 
 -- how many such days there are: each has one first price
 unfoldable pub price_days : Entries → ℕ
-price_days l = sum_of opens_day (λ (x : Entry). 1) l
+price_days l = sum_of first_of_day (λ (x : Entry). 1) l
 
 -- "A usage day's cost is taken at the price in force on that usage day.": of an event's Wh
 abbrev pub usage_cost : Terms → Entries → Event → ℕ
