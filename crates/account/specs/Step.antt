@@ -1,8 +1,10 @@
 -- The step: the cells that an event may touch, moved, and written back into the record.
 use Rattle.std.specs.Prelude.{ℕ, ◌%◌, ◌≡◌, cond, get_or, set, eqb, Result, Ok, Err}
 use Rattle.calendar.specs.Calendar.{day_count}
+use Rattle.tariff.specs.Prices.{with_price}
 use Rattle.terms.specs.Terms.{terms_code}
 use Rattle.terms.specs.declared.Terms.{Terms}
+use Rattle.ledger.specs.Event.{posted_price}
 use Rattle.ledger.specs.Rules.{max_payments}
 use Rattle.ledger.specs.declared.Event.{Event}
 use Rattle.ledger.specs.declared.Refusal.{Refusal}
@@ -63,7 +65,7 @@ with_cells a e m = record {
   warned = set a.warned (day_at e) m.warned;
   payments = set a.payments m.number m.payment;
   charges = set a.charges m.place m.sum;
-  prices = set a.prices m.price_place m.price_cell;
+  prices = with_price a.prices m.price_place e.day (posted_price e);
 }
 
 -- The account after an event, and the answer to it.

@@ -66,7 +66,7 @@ impl Account {
         self.days[(e.usage % DAY_COUNT) as usize] = m.day;
         self.charges[m.place as usize] = m.sum;
         self.warned[(e.day % DAY_COUNT) as usize] = m.warned;
-        self.prices[m.price_place as usize] = m.price_cell;
+        tariff::set_price(&mut self.prices, m.price_place, e.day, e.amount);
         if let Some(mark) = m.mark {
             marks::set(&mut self.marks, mark.kind, mark.from, mark.to);
         }

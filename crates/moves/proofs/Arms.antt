@@ -59,12 +59,11 @@ module _ (t : Terms) (m : Moved) (r : Arrays) (e : Event) where
 pub record Sound (m x : Moved) : Type 0 where
   pub number : x.number < 128
   pub place : x.place < 75
-  pub price_place : x.price_place < 17
   pub refused : (x.code ≡ 0 → ⊥) → x ≡ refusing m x.code
 
 -- the places of the cells before
 abbrev pub Placed : Moved → Type 0
-Placed m = (m.number < 128) × (m.place < 75) × (m.price_place < 17)
+Placed m = (m.number < 128) × (m.place < 75)
 
 module _ (t : Terms) (m : Moved) (r : Arrays) (e : Event) (h : Placed m) where
   test : (b : Bool) {x y : Moved} → Sound m x → Sound m y → Sound m (cond b x y)
@@ -76,14 +75,14 @@ module _ (t : Terms) (m : Moved) (r : Arrays) (e : Event) (h : Placed m) where
   by-usage (Metered wh cost) b s r = r
 
   no : (k : ℕ) → Sound m (refusing m k)
-  no k = record { number = h.0; place = h.1; price_place = h.2; refused = λ _. refl }
+  no k = record { number = h.0; place = h.1; refused = λ _. refl }
 
-  taken : {x : Moved} → x.code ≡ 0 → x.number < 128 → x.place < 75 → x.price_place < 17 → Sound m x
-  taken c n p q = record { number = n; place = p; price_place = q; refused = λ z. absurd (z c) }
+  taken : {x : Moved} → x.code ≡ 0 → x.number < 128 → x.place < 75 → Sound m x
+  taken c n p = record { number = n; place = p; refused = λ z. absurd (z c) }
 
   -- accepted, at the same places
-  yes : {x : Moved} → x.code ≡ 0 → x.number ≡ m.number → x.place ≡ m.place → x.price_place ≡ m.price_place → Sound m x
-  yes c n p q = taken c (rw n h.0) (rw p h.1) (rw q h.2)
+  yes : {x : Moved} → x.code ≡ 0 → x.number ≡ m.number → x.place ≡ m.place → Sound m x
+  yes c n p = taken c (rw n h.0) (rw p h.1)
 
   charge-place : Early t m.totals e → e.sort ≡ 4 → charge_place t e < 75
   charge-place k s = let f = charge-limits e s k.passed.limits in omega (arith, month-on t m.totals e k, f.kind.least, f.kind.most)
@@ -91,19 +90,19 @@ module _ (t : Terms) (m : Moved) (r : Arrays) (e : Event) (h : Placed m) where
   by-sorts : Early t m.totals e → Sound m (by_sort t m r e e.sort)
   unfolding pay_of reverse_of credit_of charge_of estimate_of estimated_of read_of metered_of warn_of mark_of plan_of deferring_of served_of disconnect_of connect_of price_of
   by-sorts k = by-sort t m r e (Sound m) (record {
-    pays = λ _. branch (Sound m) (leb 128 m.totals.count) (λ _. no 5) (λ f. taken refl (leb-false 128 m.totals.count f) h.1 h.2);
-    reverses = λ _. test (leb m.totals.count e.number) (no 6) (test m.payment.reversed (no 6) (yes refl refl refl refl));
-    credits = λ _. yes refl refl refl refl;
-    charged = λ s. test (ltb max_total (get_or r.charges (charge_place t e) 0)) (no 1) (taken refl h.0 (charge-place k s) h.2);
-    estimates = λ _. test (leb e.day e.usage) (no 7) (test (ltb max_price (usage_price t r.prices e)) (no 1) (by-usage m.day.usage (yes refl refl refl refl) (λ _. no 8) (no 8)));
-    reads = λ _. test (leb e.day e.usage) (no 7) (test (ltb max_price (usage_price t r.prices e)) (no 1) (by-usage m.day.usage (yes refl refl refl refl) (λ _. yes refl refl refl refl) (no 8)));
-    warns = λ _. yes refl refl refl refl;
-    marked = λ _. yes refl refl refl refl;
-    plans = λ _. test (plan_condition_met t m.totals r.marks e) (test (ltb 0 m.totals.plan) (no 10) (yes refl refl refl refl)) (no 9);
+    pays = λ _. branch (Sound m) (leb 128 m.totals.count) (λ _. no 5) (λ f. taken refl (leb-false 128 m.totals.count f) h.1);
+    reverses = λ _. test (leb m.totals.count e.number) (no 6) (test m.payment.reversed (no 6) (yes refl refl refl));
+    credits = λ _. yes refl refl refl;
+    charged = λ s. test (ltb max_total (get_or r.charges (charge_place t e) 0)) (no 1) (taken refl h.0 (charge-place k s));
+    estimates = λ _. test (leb e.day e.usage) (no 7) (test (ltb max_price (usage_price t r.prices e)) (no 1) (by-usage m.day.usage (yes refl refl refl) (λ _. no 8) (no 8)));
+    reads = λ _. test (leb e.day e.usage) (no 7) (test (ltb max_price (usage_price t r.prices e)) (no 1) (by-usage m.day.usage (yes refl refl refl) (λ _. yes refl refl refl) (no 8)));
+    warns = λ _. yes refl refl refl;
+    marked = λ _. yes refl refl refl;
+    plans = λ _. test (plan_condition_met t m.totals r.marks e) (test (ltb 0 m.totals.plan) (no 10) (yes refl refl refl)) (no 9);
     disconnects = λ _. test (not m.totals.on) (no 11) (test (leb (m.totals.debit + t.cutoff) m.totals.credit) (no 12)
-        (test (is_missing (latest_warning r.warned e.day)) (no 13) (test (barred_on t r.marks e) (no 14) (yes refl refl refl refl))));
-    connects = λ _. test m.totals.on (no 11) (test (ltb m.totals.credit (m.totals.debit + t.connect)) (no 12) (yes refl refl refl refl));
-    priced = λ _. branch (Sound m) (leb 17 (price_place r.prices e.day)) (λ _. no 17) (λ f. taken refl h.0 h.1 (leb-false 17 (price_place r.prices e.day) f));
+        (test (is_missing (latest_warning r.warned e.day)) (no 13) (test (barred_on t r.marks e) (no 14) (yes refl refl refl))));
+    connects = λ _. test m.totals.on (no 11) (test (ltb m.totals.credit (m.totals.debit + t.connect)) (no 12) (yes refl refl refl));
+    priced = λ _. test (leb 17 (price_place r.prices e.day)) (no 17) (yes refl refl refl);
     other = λ _. no 3;
   })
 

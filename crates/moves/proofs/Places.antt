@@ -20,5 +20,5 @@ pub is_move : (t : Terms) (s : Totals) (payment : Payment) (day : Day) (r : Arra
 unfolding cells_before
 is_move t s payment day r e x q =
     let m : Moved = cells_before s payment day r e in
-    let n : Sound m (move_of t m r e) = sound t m r e (mod-lt e.number (omega arith), omega arith, omega arith) in
-    record { move = q; number = rw q n.number; place = rw q n.place; price_place = rw q n.price_place }
+    let n : Sound m (move_of t m r e) = sound t m r e (mod-lt e.number (omega arith), omega arith) in
+    record { move = q; number = rw q n.number; place = rw q n.place }

@@ -2,12 +2,12 @@
 use Rattle.std.specs.Prelude.{ℕ, ◌+◌, ◌*◌, ◌-◌, ◌/◌, ◌%◌, ◌<◌, min, ◌≡◌, Bool, true, false, cond, not, ◌&&◌, ◌||◌, List, get_or, ltb, leb, eqb, Option, Some, None, Result, Ok, Err}
 use Rattle.calendar.specs.Calendar.{saturday, final_day, day_count, month_count, weekday_on, month_on}
 use Rattle.tariff.specs.Tariff.{cost_of}
-use Rattle.tariff.specs.Prices.{day_price, price_cells, in_force, price_place}
+use Rattle.tariff.specs.Prices.{price_cells, in_force, price_place}
 use Rattle.tariff.specs.declared.DayPrice.{DayPrice}
 use Rattle.marks.specs.Marks.{barring_on, latest_warning, weather_near, is_missing}
 use Rattle.terms.specs.Terms.{terms_code, max_price}
 use Rattle.terms.specs.declared.Terms.{Terms}
-use Rattle.ledger.specs.Event.{in_limits, charge_kind_count, posted_price}
+use Rattle.ledger.specs.Event.{in_limits, charge_kind_count}
 use Rattle.ledger.specs.Rules.{max_events, max_payments, required_debt}
 use Rattle.ledger.specs.declared.Event.{Event}
 use Rattle.ledger.specs.declared.Refusal.{Refusal}
@@ -88,7 +88,8 @@ abbrev pub arrays : List ℕ → List ℕ → List ℕ → List DayPrice → Arr
 arrays charges marks warned prices = record { charges = charges; marks = marks; warned = warned; prices = prices }
 
 -- The answer, and the cells: the totals, payment `number`, the event's usage day, the charges summed at `place`, the warning byte of the event's
--- day, the cell of a price at `price_place`, and the mark set from day `from` to day `to`, none where `to` is before `from`.
+-- day, the place of the event's price, past the cells where it is none, and the mark set from day `from` to day `to`, none where `to` is before
+-- `from`.
 pub record Moved : Type 0 where
   pub code : ℕ
   pub value : ℕ
@@ -100,13 +101,12 @@ pub record Moved : Type 0 where
   pub sum : ℕ
   pub warned : ℕ
   pub price_place : ℕ
-  pub price_cell : DayPrice
   pub kind : ℕ
   pub from : ℕ
   pub to : ℕ
 
-abbrev pub move : ℕ → ℕ → Totals → ℕ → Payment → Day → ℕ → ℕ → ℕ → ℕ → DayPrice → ℕ → ℕ → ℕ → Moved
-move code value totals number payment day place sum warned price_place price_cell kind from to = record {
+abbrev pub move : ℕ → ℕ → Totals → ℕ → Payment → Day → ℕ → ℕ → ℕ → ℕ → ℕ → ℕ → ℕ → Moved
+move code value totals number payment day place sum warned price_place kind from to = record {
   code = code;
   value = value;
   totals = totals;
@@ -117,7 +117,6 @@ move code value totals number payment day place sum warned price_place price_cel
   sum = sum;
   warned = warned;
   price_place = price_place;
-  price_cell = price_cell;
   kind = kind;
   from = from;
   to = to;
@@ -125,25 +124,25 @@ move code value totals number payment day place sum warned price_place price_cel
 
 -- m with this answer and these totals; below, with another payment, usage day, sum of charges, warning byte, price or mark
 abbrev pub answering : Moved → ℕ → ℕ → Totals → Moved
-answering m code value s = move code value s m.number m.payment m.day m.place m.sum m.warned m.price_place m.price_cell m.kind m.from m.to
+answering m code value s = move code value s m.number m.payment m.day m.place m.sum m.warned m.price_place m.kind m.from m.to
 
 abbrev pub paying : Moved → ℕ → Payment → Moved
-paying m number p = move m.code m.value m.totals number p m.day m.place m.sum m.warned m.price_place m.price_cell m.kind m.from m.to
+paying m number p = move m.code m.value m.totals number p m.day m.place m.sum m.warned m.price_place m.kind m.from m.to
 
 abbrev pub on_day : Moved → Usage → Moved
-on_day m u = move m.code m.value m.totals m.number m.payment (record { usage = u }) m.place m.sum m.warned m.price_place m.price_cell m.kind m.from m.to
+on_day m u = move m.code m.value m.totals m.number m.payment (record { usage = u }) m.place m.sum m.warned m.price_place m.kind m.from m.to
 
 abbrev pub charging : Moved → ℕ → ℕ → Moved
-charging m place sum = move m.code m.value m.totals m.number m.payment m.day place sum m.warned m.price_place m.price_cell m.kind m.from m.to
+charging m place sum = move m.code m.value m.totals m.number m.payment m.day place sum m.warned m.price_place m.kind m.from m.to
 
 abbrev pub warning : Moved → Moved
-warning m = move m.code m.value m.totals m.number m.payment m.day m.place m.sum 1 m.price_place m.price_cell m.kind m.from m.to
+warning m = move m.code m.value m.totals m.number m.payment m.day m.place m.sum 1 m.price_place m.kind m.from m.to
 
-abbrev pub pricing : Moved → ℕ → DayPrice → Moved
-pricing m place cell = move m.code m.value m.totals m.number m.payment m.day m.place m.sum m.warned place cell m.kind m.from m.to
+abbrev pub pricing : Moved → ℕ → Moved
+pricing m place = move m.code m.value m.totals m.number m.payment m.day m.place m.sum m.warned place m.kind m.from m.to
 
 abbrev pub marking : Moved → ℕ → ℕ → ℕ → Moved
-marking m kind from to = move m.code m.value m.totals m.number m.payment m.day m.place m.sum m.warned m.price_place m.price_cell kind from to
+marking m kind from to = move m.code m.value m.totals m.number m.payment m.day m.place m.sum m.warned m.price_place kind from to
 
 -- a refusal moves nothing
 abbrev pub refusing : Moved → ℕ → Moved
@@ -291,7 +290,7 @@ connect_of t m e =
 unfoldable pub price_of : Terms → Moved → List DayPrice → Event → Moved
 price_of t m prices e =
     cond (leb price_cells (price_place prices e.day)) (refusing m 17)
-    (accepting (pricing m (price_place prices e.day) (day_price e.day (posted_price e))) (tallied m.totals e.day) 0)
+    (accepting (pricing m (price_place prices e.day)) (tallied m.totals e.day) 0)
 
 -- the move of sort k
 unfoldable pub by_sort : Terms → Moved → Arrays → Event → ℕ → Moved
@@ -318,7 +317,7 @@ move_of t m r e = cond (eqb (early_code t m.totals e) 0) (by_sort t m r e e.sort
 unfoldable pub cells_before : Totals → Payment → Day → Arrays → Event → Moved
 cells_before s payment day r e =
     move 0 0 s (e.number % max_payments) payment day 0 (get_or r.charges 0 0) (get_or r.warned (e.day % day_count) 0)
-    0 (get_or r.prices 0 (day_price 0 0)) 0 1 0
+    price_cells 0 1 0
 
 -- ---- the code's moves
 
@@ -342,7 +341,7 @@ mark_to None = 0
 -- a move of the code, which is of an event that nothing refuses
 abbrev pub accepted : Move → Moved
 accepted m =
-    move 0 m.value m.totals m.number m.payment m.day m.place m.sum m.warned m.price_place m.price_cell
+    move 0 m.value m.totals m.number m.payment m.day m.place m.sum m.warned m.price_place
     (mark_kind m.mark) (mark_from m.mark) (mark_to m.mark)
 
 -- a move of the cells, or a refusal of the event, which leaves them as they were
@@ -355,4 +354,3 @@ pub record IsMove (t : Terms) (s : Totals) (payment : Payment) (day : Day) (r : 
   pub move : moved_of (cells_before s payment day r e) x ≡ move_of t (cells_before s payment day r e) r e
   pub number : (moved_of (cells_before s payment day r e) x).number < max_payments
   pub place : (moved_of (cells_before s payment day r e) x).place < charge_places
-  pub price_place : (moved_of (cells_before s payment day r e) x).price_place < price_cells

@@ -7,6 +7,7 @@ ghost use Rattle.moves.specs.Moves.{early_code, accepted, arrays_in, cells_befor
 use super::{Cells, Move, is_account};
 use calendar::{DAY_COUNT, FINAL_DAY, Weekday};
 use ledger::{Event, MAX_EVENTS, MAX_PAYMENTS, Refusal};
+use tariff::PRICE_CELLS;
 
 // An event that passed the checks, with the account's cells, and the move that leaves them as they are. Its ghost field is what the sorts'
 // functions rest on: the fields are within their limits, and no sum wraps.
@@ -49,8 +50,7 @@ impl<'a> Checked<'a> {
             place: 0,
             sum: cells.charges[0],
             warned: cells.warned[(event.day % DAY_COUNT) as usize],
-            price_place: 0,
-            price_cell: cells.prices[0],
+            price_place: PRICE_CELLS,
             mark: None,
         };
         Ok(Checked {

@@ -12,7 +12,7 @@ use guard::Checked;
 use ledger::{Event, MAX_PAYMENTS, Refusal};
 pub use mark::Mark;
 use marks::DayBytes;
-use tariff::{DayPrice, Prices};
+use tariff::Prices;
 use terms::Terms;
 
 mod charges;
@@ -104,9 +104,8 @@ pub struct Move {
     pub sum: u64,
     // the warning byte of the event's day, 0 or 1: C's record has a byte a day
     pub warned: u8,
-    // the cell of the prices at `price_place`
+    // where the event's price is written; past the cells where it is none
     pub price_place: u32,
-    pub price_cell: DayPrice,
     pub mark: Option<Mark>,
 }
 

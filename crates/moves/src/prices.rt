@@ -5,7 +5,7 @@ ghost use Rattle.moves.specs.Sorts.{Gives};
 use super::Move;
 use super::guard::Checked;
 use ledger::Refusal;
-use tariff::{DayPrice, PRICE_CELLS};
+use tariff::PRICE_CELLS;
 
 impl Checked<'_> {
     #[tactic(auto, using(crate::proofs::Early::early), unfolding(crate::specs::Moves::price_of))]
@@ -21,10 +21,6 @@ impl Checked<'_> {
             value: 0,
             totals: self.before.totals.tallied(e.day),
             price_place,
-            price_cell: DayPrice {
-                day: e.day,
-                price: e.amount,
-            },
             ..self.before
         })
     }

@@ -7,6 +7,7 @@ use lib.ListN.{set}
 use lib.Seq.{map-set}
 use Rattle.marks.specs.Marks.{marked}
 use Rattle.ledger.specs.declared.Event.{Event}
+use Rattle.tariff.specs.Prices.{with_price}
 use Rattle.moves.specs.Moves.{Moved}
 use Rattle.moves.specs.declared.Usage.{Usage}
 use Rattle.moves.specs.declared.Usage.TheVariants.{Blank, Estimated, Metered}
@@ -71,7 +72,7 @@ moved-in n e m = λ k. record {
   warned = set n.warned (day_at e) m.warned;
   payments = (map-set payment_in n.payments m.number (payment_numbers m.payment) ∙ ap (set (map payment_in n.payments) m.number) (payment-back m.payment)) k;
   charges = set n.charges m.place m.sum;
-  prices = set n.prices m.price_place m.price_cell;
+  prices = with_price n.prices m.price_place e.day e.amount;
 }
 
 -- the same of an account's own numbers
@@ -81,7 +82,7 @@ moved-of a e m = λ k. record {
   totals = totals_numbers m.totals;
   charges = set a.charges m.place m.sum;
   terms = a.terms;
-  prices = set a.prices m.price_place m.price_cell;
+  prices = with_price a.prices m.price_place e.day e.amount;
   days = sym (map-set day_numbers a.days (usage_at e) m.day) k;
   payments = sym (map-set payment_numbers a.payments m.number m.payment) k;
   spare = 0;

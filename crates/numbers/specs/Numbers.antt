@@ -2,9 +2,11 @@
 -- the calls over them leave and answer.
 use Rattle.std.specs.Prelude.{ℕ, ◌≡◌, Bool, cond, List, map, set, eqb}
 use Rattle.marks.specs.Marks.{marked}
+use Rattle.tariff.specs.Prices.{with_price}
 use Rattle.terms.specs.Terms.{terms_code}
 use Rattle.terms.specs.declared.Terms.{Terms}
 use Rattle.ledger.specs.declared.Answer.{Answer}
+use Rattle.ledger.specs.Event.{posted_price}
 use Rattle.ledger.specs.declared.Event.{Event}
 use Rattle.moves.specs.Moves.{Moved, move_of}
 use Rattle.moves.specs.declared.Usage.{Usage}
@@ -120,7 +122,7 @@ with_move n e m = record {
   totals = totals_numbers m.totals;
   charges = set n.charges m.place m.sum;
   terms = n.terms;
-  prices = set n.prices m.price_place m.price_cell;
+  prices = with_price n.prices m.price_place e.day (posted_price e);
   days = set n.days (usage_at e) (day_numbers m.day);
   payments = set n.payments m.number (payment_numbers m.payment);
   spare = n.spare;

@@ -5,7 +5,6 @@
 #![tactic(auto)]
 
 ghost use Rattle.std.specs.Prelude.{◌≡◌, ◌<◌};
-ghost use Rattle.tariff.specs.Prices.{price_cells};
 ghost use Rattle.ledger.specs.Rules.{max_payments};
 ghost use Rattle.ledger.specs.Refusals.{code_of, answer_record};
 ghost use Rattle.numbers.specs.Numbers.{day_in, payment_in, totals_in, account_in, day_numbers, payment_numbers, totals_numbers};
@@ -246,7 +245,7 @@ impl Numbers {
     // The cells of a move, each in its own place.
     #[tactic(auto, unfolding(marks::specs::Marks::marked, marks::specs::Marks::mark_range))]
     fn write(&mut self, e: Event, m: Move)
-        requires { (m.number < max_payments) × (m.place < charge_places) × (m.price_place < price_cells) }
+        requires { (m.number < max_payments) × (m.place < charge_places) }
         ensures { self.new ≡ with_move self.old e (accepted m) }
     {
         self.totals = TotalsNumbers::from(m.totals);
@@ -254,7 +253,7 @@ impl Numbers {
         self.days[(e.usage % DAY_COUNT) as usize] = DayNumbers::from(m.day);
         self.charges[m.place as usize] = m.sum;
         self.warned[(e.day % DAY_COUNT) as usize] = m.warned;
-        self.prices[m.price_place as usize] = m.price_cell;
+        tariff::set_price(&mut self.prices, m.price_place, e.day, e.amount);
         if let Some(mark) = m.mark {
             marks::set(&mut self.marks, mark.kind, mark.from, mark.to);
         }

@@ -11,7 +11,7 @@ use lib.IntN.{pos, ◌-ℤ◌}
 use borrow.Author.Tests.{eqb-true, leb-false}
 use Rattle.marks.specs.Marks.{mark_range, marked}
 use Rattle.marks.proofs.Laws.{marked-length}
-use Rattle.tariff.specs.Prices.{day_price}
+use Rattle.tariff.proofs.Laws.{with_price-length}
 use Rattle.terms.specs.declared.Terms.{Terms}
 use Rattle.ledger.specs.declared.Event.{Event}
 use Rattle.ledger.specs.Entries.{Entries, last_day, payment_count, usage_day}
@@ -59,7 +59,7 @@ left k a e m =
     (cond (used k) m.day c.day)
     (cond (eqb k 4) m.place c.place) (cond (eqb k 4) m.sum c.sum)
     (cond (eqb k 7) m.warned c.warned)
-    (cond (eqb k 12) m.price_place c.price_place) (cond (eqb k 12) m.price_cell c.price_cell)
+    (cond (eqb k 12) m.price_place c.price_place)
     (cond (eqb k 8) m.kind c.kind) (cond (eqb k 8) m.from c.from) (cond (eqb k 8) m.to c.to)
 
 -- What a sort's own cell shows after the event, where L is then l.
@@ -128,8 +128,7 @@ module _ (a : Account) (l : Ledger) (e : Event) (g : Agree a.terms a l) (s : Inv
   prices-law : PricesAgree t b.prices after
   unfolding cells_before
   prices-law = decide (eqb k 12) (λ y. own 12 y) (λ f.
-      rw (simp f at (ap (λ (y : Moved). y.price_place) w), simp f at (ap (λ (y : Moved). y.price_cell) w), set-get_or a.prices 0 (day_price 0 0))
-      (prices-stay t a e x.part l.list g.kept (sort-is 12 f) (taken a l g e h s z).order))
+      rw (simp f at (ap (λ (y : Moved). y.price_place) w)) (prices-stay t a e x.part l.list g.kept (sort-is 12 f) (taken a l g e h s z).order))
 
   -- ---- the totals that no sort but its own writes
 
@@ -199,7 +198,7 @@ module _ (a : Account) (l : Ledger) (e : Event) (g : Agree a.terms a l) (s : Inv
       marks = marked-length a.marks m.kind m.from m.to ∙ g.sizes.marks;
       warned = simp length-set g.sizes.warned;
       charges = simp length-set g.sizes.charges;
-      prices = simp length-set g.sizes.prices;
+      prices = with_price-length a.prices m.price_place e.day e.amount ∙ g.sizes.prices;
     };
   }
 

@@ -8,10 +8,10 @@ use mathlib.Core.Logic.{inl}
 use lib.ListN.{length, get_or, set}
 use lib.Seq.{get_or-set_same, get_or-set_other}
 use lib.Dec.{ltb, leb, eqb}
-use borrow.Author.Tests.{eq-eqb, ne_eqb, eqb-true, eqb-false, ltb-true, ltb-false, leb-true, leb-false, le-leb, lt-leb}
+use borrow.Author.Tests.{eq-eqb, ne_eqb, eqb-true, eqb-false, ltb-true, ltb-false, lt-ltb, leb-true, leb-false, le-leb, lt-leb}
 use Rattle.calendar.specs.Calendar.{month_on}
-use Rattle.tariff.specs.Prices.{day_price, price_place}
-use Rattle.tariff.proofs.Laws.{taken-longer, taken-first, place-is, WithPrice, with_price-is}
+use Rattle.tariff.specs.Prices.{price_place, with_price}
+use Rattle.tariff.proofs.Laws.{taken-longer, taken-first, place-is, Priced, priced-is}
 use Rattle.terms.specs.declared.Terms.{Terms}
 use Rattle.marks.specs.Marks.{marked}
 use Rattle.marks.proofs.Laws.{marked-at, byte_or}
@@ -156,21 +156,21 @@ module _ (t : Terms) (a : Account) (e : Event) (p : ℕ) (l : Entries) (k : Cell
       (λ b. simp (b, lt-leb 17 (suc (price_days l)) (omega (arith, leb-false 16 (price_days l) b))))))))
 
   pub prices-set : is_price e ≡ true → last_day l ≤ e.day → e.day < 400 → length a.prices ≡ 17 → price_place a.prices e.day < 17
-      → PricesAgree t (set a.prices (price_place a.prices e.day) (day_price e.day e.amount)) (F.more e p l)
+      → PricesAgree t (with_price a.prices (price_place a.prices e.day) e.day e.amount) (F.more e p l)
   unfolding last_day
-  prices-set y h d n r = record {
+  prices-set y h d n r = rw (lt-ltb (price_place a.prices e.day) 17 r) (record {
     taken = rw place (laws.taken);
     days = λ v w. laws.days v w ∙ rw (k.prices.days v w) (decide (ltb 0 e.day)
         (λ z. rw (priced-new x l v y (ltb-true 0 e.day z)) (decide (eqb v 0) (λ i. simp (i, or-true)) (λ i. simp i)))
         (λ z. rw (priced-opening x l v (omega (arith, ltb-false 0 e.day z))) (decide (eqb v 0) (λ i. simp (i, or-true)) (λ i. simp (i, ne_eqb e.day v (λ j. eqb-false v 0 i (omega (arith, ltb-false 0 e.day z))))))));
     force = λ u w. laws.force t.price u w ∙ rw (k.prices.force u w) (sym (price-new t x l u y));
-  }
+  })
     where
       x : Entry
       x = record { event = e; part = p }
 
-      laws : WithPrice a.prices (price_place a.prices e.day) 0 e.day e.amount
-      laws = with_price-is (suc (price_days l)) 0 (last_day l) e.day e.amount a.prices k.prices.taken (omega arith) h d (rw n r)
+      laws : Priced a.prices (price_place a.prices e.day) 0 e.day e.amount
+      laws = priced-is (suc (price_days l)) 0 (last_day l) e.day e.amount a.prices k.prices.taken (omega arith) h d (rw n r)
 
       place : price_days (F.more e p l) ≡ price_place a.prices e.day
       place = let q = place-law h d in decide (ltb 0 e.day)

@@ -4,12 +4,12 @@ use mathlib.Core.Bool.{true, false, cond, ◌||◌, or-true}
 use mathlib.Core.List.{List, [], ◌∷◌}
 use Prim.Native.Nat.{ℕ, zero, suc, ◌+◌, ◌≤◌, ◌<◌}
 use native.Mathlib.Omega.{arith}
-use lib.ListN.{length, set, replicate}
+use lib.ListN.{length, length-set, set, replicate}
 use lib.Dec.{ltb, leb, eqb}
 use borrow.Author.Tests.{ltb-true, ltb-false, le-ltb, lt-leb, le-leb, leb-false, ne_eqb, eq-eqb, eqb-true, eqb-false}
 use Rattle.calendar.proofs.Sums.{decide}
 use Rattle.tariff.specs.declared.DayPrice.{DayPrice}
-use Rattle.tariff.specs.Prices.{day_price, no_price, in_force, price_place, has_price, opening_prices, NoneTaken, Taken}
+use Rattle.tariff.specs.Prices.{day_price, no_price, in_force, price_place, with_price, has_price, opening_prices, NoneTaken, Taken}
 
 -- ---- cells that are not taken
 
@@ -63,30 +63,30 @@ place-next c cells x y = simp y (omega arith)
 place-here : (c : DayPrice) (cells : List DayPrice) (x : ℕ) → ltb c.day x ≡ false → price_place (c ∷ cells) x ≡ 0
 place-here c cells x f = simp f
 
--- the cells with it in place k
-abbrev with_price : List DayPrice → ℕ → ℕ → ℕ → List DayPrice
-with_price cells k x p = set cells k (day_price x p)
+-- the cells with it in place k, which is there
+abbrev priced : List DayPrice → ℕ → ℕ → ℕ → List DayPrice
+priced cells k x p = set cells k (day_price x p)
 
-pub record WithPrice (cells : List DayPrice) (k least x p : ℕ) : Type 0 where
-  pub taken : Taken (suc k) least x (with_price cells k x p)
+pub record Priced (cells : List DayPrice) (k least x p : ℕ) : Type 0 where
+  pub taken : Taken (suc k) least x (priced cells k x p)
   -- in force from its day on
-  pub force : (o u : ℕ) → u < 400 → in_force o (with_price cells k x p) u ≡ cond (leb x u) p (in_force o cells u)
-  pub days : (d : ℕ) → d < 400 → has_price (with_price cells k x p) d ≡ (eqb x d || has_price cells d)
+  pub force : (o u : ℕ) → u < 400 → in_force o (priced cells k x p) u ≡ cond (leb x u) p (in_force o cells u)
+  pub days : (d : ℕ) → d < 400 → has_price (priced cells k x p) d ≡ (eqb x d || has_price cells d)
 
-pub with_price-is : (n least last x p : ℕ) (cells : List DayPrice) → Taken n least last cells → least ≤ x → last ≤ x → x < 400
-    → price_place cells x < length cells → WithPrice cells (price_place cells x) least x p
+pub priced-is : (n least last x p : ℕ) (cells : List DayPrice) → Taken n least last cells → least ≤ x → last ≤ x → x < 400
+    → price_place cells x < length cells → Priced cells (price_place cells x) least x p
 unfolding in_force has_price
-with_price-is zero least last x p [] t g h k r = absurd (omega (arith, r))
-with_price-is zero least last x p (c ∷ cells) t g h k r =
+priced-is zero least last x p [] t g h k r = absurd (omega (arith, r))
+priced-is zero least last x p (c ∷ cells) t g h k r =
     let free : c.day ≡ 400 = ap (λ (y : DayPrice). y.day) t.0 in
     rw (place-here c cells x (le-ltb c.day x (omega arith))) (record {
       taken = (g, omega arith, t.1);
       force = λ o u v. simp (lt-leb c.day u (omega arith), none-force cells p u t.1 v);
       days = λ d v. simp (ne_eqb c.day d (λ e. omega arith));
     })
-with_price-is (suc n) least last x p [] t g h k r = absurd t
-with_price-is (suc n) least last x p (c ∷ cells) t g h k r = decide (ltb c.day x)
-    (λ y. let s = with_price-is n (suc c.day) last x p cells t.2 (ltb-true c.day x y) h k (omega (arith, place-next c cells x y)) in
+priced-is (suc n) least last x p [] t g h k r = absurd t
+priced-is (suc n) least last x p (c ∷ cells) t g h k r = decide (ltb c.day x)
+    (λ y. let s = priced-is n (suc c.day) last x p cells t.2 (ltb-true c.day x y) h k (omega (arith, place-next c cells x y)) in
     rw (place-next c cells x y) (record {
       taken = (t.0, omega (arith, ltb-true c.day x y), s.taken);
       force = λ o u v. decide (leb c.day u)
@@ -102,6 +102,9 @@ with_price-is (suc n) least last x p (c ∷ cells) t g h k r = decide (ltb c.day
       force = λ o u v. rw (e, none-force cells p u free v) (decide (leb x u) (λ y. simp y) (λ y. simp y));
       days = λ d v. rw e (decide (eqb x d) (λ y. simp y) (λ y. simp y));
     }))
+
+pub with_price-length : (cells : List DayPrice) (k x p : ℕ) → length (with_price cells k x p) ≡ length cells
+with_price-length cells k x p = decide (ltb k 17) (λ y. simp (y, length-set)) (λ f. simp f)
 
 -- ---- a fresh account's
 

@@ -1,5 +1,5 @@
 -- The prices of an account by day, as the record has them: in cells, day 0's first, then those of later days, in order.
-use Rattle.std.specs.Prelude.{ℕ, zero, suc, ◌+◌, ◌≤◌, ◌≡◌, Bool, false, cond, ◌||◌, List, [], ◌∷◌, replicate, ltb, leb, eqb}
+use Rattle.std.specs.Prelude.{ℕ, zero, suc, ◌+◌, ◌≤◌, ◌≡◌, Bool, false, cond, ◌||◌, List, [], ◌∷◌, replicate, set, ltb, leb, eqb}
 use Rattle.std.specs.List.{prefix_len}
 use Rattle.calendar.specs.Calendar.{day_count}
 use Rattle.tariff.specs.Tariff.{max_price_days}
@@ -30,6 +30,10 @@ in_force price (c ∷ cells) u = cond (leb c.day u) (in_force c.price cells u) p
 -- taken; past the cells where there is none.
 abbrev pub price_place : List DayPrice → ℕ → ℕ
 price_place cells x = prefix_len (λ (c : DayPrice). ltb c.day x) cells
+
+-- a price p of day x written at a place; past the cells nothing is
+abbrev pub with_price : List DayPrice → ℕ → ℕ → ℕ → List DayPrice
+with_price cells place x p = cond (ltb place price_cells) (set cells place (day_price x p)) cells
 
 -- whether day d has a cell
 unfoldable pub has_price : List DayPrice → ℕ → Bool

@@ -4,7 +4,7 @@
 
 ghost use Rattle.std.specs.Prelude.{◌≡◌};
 ghost use Rattle.tariff.specs.Tariff.{cost_of};
-ghost use Rattle.tariff.specs.Prices.{opening_prices, in_force, price_place};
+ghost use Rattle.tariff.specs.Prices.{opening_prices, in_force, price_place, with_price};
 
 use calendar::DAY_COUNT;
 
@@ -64,4 +64,13 @@ pub fn price_place(prices: &Prices, day: u32) -> u32
     ensures { result ≡ price_place prices.now day }
 {
     prices.iter().take_while(|cell| cell.day < day).count() as u32
+}
+
+// Writes a price of a day at the place; past the cells nothing is written.
+pub fn set_price(prices: &mut Prices, place: u32, day: u32, price: u32)
+    ensures { prices.new ≡ with_price prices.old place day price }
+{
+    if place < PRICE_CELLS {
+        prices[place as usize] = DayPrice { day, price };
+    }
 }
