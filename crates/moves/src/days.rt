@@ -13,7 +13,8 @@ use terms::MAX_PRICE;
 
 impl Checked<'_> {
     // The cost of the event's usage day at the price in force on it, or a refusal: by 7 where the day is not before the event's, by 1 where no
-    // account has that price.
+    // account has that price. (Inlined: a call copies all of `self`.)
+    #[inline(always)]
     fn usage_cost(self) -> Result<u64, Refusal>
         ensures { let c = self.entry in let p = usage_price c.cells.terms c.cells.prices.now c.event in
             result ≡ cond (leb c.event.day c.event.usage) (Err UsageDay) (cond (ltb max_price p) (Err Terms) (Ok (cost_of c.event.wh p))) }
