@@ -18,8 +18,8 @@
  *
  * Stack, in bytes, the greatest measured on good and on damaged numbers, the room for the answer included (bench/stack.c), on x86-64, for
  * which alone the kit builds:
- *   prepay_open 88, prepay_post 1,176, prepay_row 1,224, prepay_readings 56, prepay_summary 464, prepay_read_terms 376,
- *   prepay_read_event 392; for hosts prepay_transcript 18,152, prepay_statement 18,168.
+ *   prepay_open 88, prepay_post 1,240, prepay_row 1,288, prepay_readings 56, prepay_summary 464, prepay_read_terms 376,
+ *   prepay_read_event 392; for hosts prepay_transcript 18,344, prepay_statement 18,488.
  */
 #ifndef PREPAY_HEAD_H
 #define PREPAY_HEAD_H
