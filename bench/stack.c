@@ -20,7 +20,7 @@ static prepay_event row[PREPAY_MAX_EVENTS], event;
 static prepay_terms terms = {2024, 1, 1, 1250, 5000, 1000, 50}, terms_read;
 static prepay_reader reader;
 static const char priced[] = "open=2024-01-01\nprice=1250\nconnect=5000\ncutoff=1000\nshare=50\nday=0\ndo=price\nprice=2500\n";
-static size_t events, text_len;
+static size_t events, text_len, page_room;
 static uint32_t month;
 static uint8_t codes[PREPAY_MAX_EVENTS], text[PREPAY_MAX_TEXT + 1], out[PREPAY_TRANSCRIPT_ROOM];
 static volatile uint64_t sink;
@@ -31,6 +31,7 @@ static void post(void) { sink = prepay_post(&account, &event).code; }
 static void whole_row(void) { sink = prepay_row(&account, row, events, codes, sizeof codes); }
 static void readings(void) { sink = (uint64_t)prepay_readings(&account).balance; }
 static void summary(void) { sink = prepay_summary(&account, month).average; }
+static void page(void) { sink = prepay_page(&account, month, out, page_room).value; }
 static void read_terms(void) { sink = prepay_read_terms(text, text_len, &reader, &terms_read); }
 static void read_event(void) { sink = prepay_read_event(text, text_len, &reader, &event); }
 static void transcript(void) { sink = prepay_transcript(text, text_len, out, sizeof out); }
@@ -71,12 +72,13 @@ static struct {
     {"prepay_row", whole_row, {0}},
     {"prepay_readings", readings, {0}},
     {"prepay_summary", summary, {0}},
+    {"prepay_page", page, {0}},
     {"prepay_read_terms", read_terms, {0}},
     {"prepay_read_event", read_event, {0}},
     {"prepay_transcript", transcript, {0}},
     {"prepay_statement", statement, {0}},
 };
-enum { CALLS = sizeof calls / sizeof calls[0], LIMITED = 5, LIMIT = 2048 };
+enum { CALLS = sizeof calls / sizeof calls[0], LIMITED = 6, LIMIT = 2048 };
 
 static void measure(void (*f)(void), int damaged) {
     for (int i = 0; i < CALLS; i++)
@@ -89,8 +91,11 @@ static void measure(void (*f)(void), int damaged) {
 
 static void measure_readings(int damaged) {
     measure(readings, damaged);
-    for (month = 0; month <= PREPAY_MONTHS; month++)
+    for (month = 0; month <= PREPAY_MONTHS; month++) {
         measure(summary, damaged);
+        for (page_room = 0; page_room <= PREPAY_PAGE_ROOM; page_room += PREPAY_PAGE_ROOM)
+            measure(page, damaged);
+    }
 }
 
 static void measure_text(int damaged) {

@@ -1,9 +1,9 @@
 /* The account of a prepay meter head from C, by each call of include/head.h.
  *
- * `example` posts document 01's worked example singly and in rows, prints a month's figures and posts a new price; run.sh holds it to
- * example.out.
- * `example FILE` reads and posts the event text of a file event by event, as firmware does, and prints what the programs `prepay` and
- * `summary` print for it; then the same by the calls that print a whole text. run.sh holds it to the programs.
+ * `example` posts document 01's worked example singly and in rows, prints a month's figures and its page and posts a new price; run.sh holds
+ * it to example.out.
+ * `example FILE` reads and posts the event text of a file event by event, as firmware does, and prints what the programs `prepay`, `summary`
+ * and `page`, of each month, print for it; then the same by the calls that print a whole text. run.sh holds it to the programs.
  */
 #include <inttypes.h>
 #include <stdio.h>
@@ -12,7 +12,7 @@
 #include "head.h"
 
 /* What this program was written for, and its memory laid out for. */
-_Static_assert(PREPAY_VERSION == 3, "another head.h");
+_Static_assert(PREPAY_VERSION == 4, "another head.h");
 _Static_assert(sizeof(prepay_account) == PREPAY_ACCOUNT_SIZE && PREPAY_ACCOUNT_SIZE == 8464, "8,464 bytes are kept for the account");
 _Static_assert(_Alignof(prepay_account) == PREPAY_ACCOUNT_ALIGN && PREPAY_ACCOUNT_ALIGN == 8, "they are aligned to 8");
 
@@ -133,6 +133,16 @@ static void print_month(uint32_t month) {
     printf(" average=%" PRIu64 " missing=%" PRIu64 "\n", f.average, f.missing);
 }
 
+/* The page of a month, as `page` prints it. */
+static void print_page(uint32_t month) {
+    static uint8_t page[PREPAY_PAGE_ROOM];
+    prepay_answer answer = prepay_page(&account, month, page, sizeof page);
+    if (answer.code == PREPAY_OK)
+        fwrite(page, 1, answer.value, stdout);
+    else
+        printf("code=%" PRIu64 " value=%" PRIu64 "\n", answer.code, answer.value);
+}
+
 /* Reads and posts a text event by event; prints as `prepay` does. Answers the code of the terms. */
 static uint8_t event_by_event(const uint8_t *text, size_t text_len) {
     prepay_reader reader;
@@ -166,6 +176,12 @@ static void of_text(const uint8_t *text, size_t text_len) {
         print_refused(code);
     for (uint32_t month = 0; code == PREPAY_OK && month < PREPAY_MONTHS; month++)
         print_month(month);
+    puts("# pages");
+    for (uint32_t month = 0; month < PREPAY_MONTHS; month++)
+        if (code == PREPAY_OK)
+            print_page(month);
+        else
+            print_refused(code);
     puts("# prepay_transcript");
     fwrite(out, 1, prepay_transcript(text, text_len, out, PREPAY_TRANSCRIPT_ROOM), stdout);
     puts("# prepay_statement");
@@ -196,6 +212,8 @@ int main(int argc, char **argv) {
     rows(&singly, codes);
     puts("# month 0");
     print_month(0);
+    puts("# its page");
+    print_page(0);
     puts("# a new price");
     for (unsigned i = 0; i < sizeof priced / sizeof priced[0]; i++)
         print_answer(EVENTS + i + 1, prepay_post(&account, &priced[i]));

@@ -2,7 +2,7 @@
  *
  * `layout check`, by what the calls do: every field of terms, events, account, answers, readings, figures and reader gets a value that is known
  * by another way, from the event text that prepay_transcript and prepay_statement print. Two fields exchanged, in the header or in the
- * library, are found. `layout print` prints size and alignment of every struct, and place, size and sign of every field: run.sh holds them to
+ * library, are found. Prices and pages are held to document 02. `layout print` prints size and alignment of every struct, and place, size and sign of every field: run.sh holds them to
  * what Rattle proves of its types (layout.py).
  */
 #include <stddef.h>
@@ -314,9 +314,10 @@ static void names(void) {
         {{.sort = PREPAY_WARN, .day = 1}, PREPAY_OK},
         {{.sort = PREPAY_DISCONNECT, .day = 2}, PREPAY_DAY_BARRED},
     };
-    expect(PREPAY_VERSION == 3 && prepay_version() == PREPAY_VERSION, "the version");
+    expect(PREPAY_VERSION == 4 && prepay_version() == PREPAY_VERSION, "the version");
     expect(PREPAY_ACCOUNT_SIZE == 8464 && sizeof(prepay_account) == PREPAY_ACCOUNT_SIZE, "the size of an account");
     expect(PREPAY_PRICE_CELLS == 1 + 16, "document 02: day 0's price, and those of sixteen days after it");
+    expect(PREPAY_PAGE_ROOM == 73 * (6 + 128), "document 02: lines of 72 columns and a line feed, six and one for each payment");
     prepay_account account;
     memset(&account, 0, sizeof account);
     expect(prepay_post(&account, &posts[0].event).code == PREPAY_NO_ACCOUNT, "zeros are no account");
@@ -399,6 +400,158 @@ static void prices(void) {
     }
 }
 
+/* The page that is wanted, line by line: a label from column 1, a figure that ends in column 72. */
+static char wanted[PREPAY_PAGE_ROOM + 1];
+static size_t wanted_len;
+
+static void line(const char *label, const char *figure) {
+    wanted_len += (size_t)snprintf(wanted + wanted_len, sizeof wanted - wanted_len, "%-58s%14s\n", label, figure);
+}
+
+/* What is answered for a page in buffers of these lengths; where it is 0, the wanted page stands in the buffer, and all else is as it was. */
+static void answered(const prepay_account *account, uint32_t month, uint64_t code, const size_t *rooms, size_t count, const char *what) {
+    enum { BEFORE = 64 };
+    static uint8_t out[BEFORE + PREPAY_PAGE_ROOM + 256];
+    const prepay_account before = *account;
+    size_t length = code == PREPAY_OK ? wanted_len : 0;
+    for (size_t r = 0; r < count; r++) {
+        memset(out, 0xA5, sizeof out);
+        prepay_answer answer = prepay_page(account, month, out + BEFORE, rooms[r]);
+        expect(answer.code == code && answer.value == length, what);
+        expect(memcmp(out + BEFORE, wanted, length) == 0, what);
+        for (size_t i = 0; i < sizeof out; i++)
+            expect((i >= BEFORE && i < BEFORE + length) || out[i] == 0xA5, "prepay_page writes the page's bytes alone");
+    }
+    expect(memcmp(account, &before, sizeof before) == 0, "prepay_page leaves the account as it is");
+}
+
+/* The wanted page is laid into a buffer of exactly its length and into longer ones; shorter ones are 16. */
+static void page_is(const prepay_account *account, uint32_t month, const char *what) {
+    const size_t long_enough[] = {wanted_len, wanted_len + 1, PREPAY_PAGE_ROOM, PREPAY_PAGE_ROOM + 100};
+    const size_t too_short[] = {wanted_len - 1, wanted_len - 73, 73, 1, 0};
+    answered(account, month, PREPAY_OK, long_enough, sizeof long_enough / sizeof *long_enough, what);
+    answered(account, month, PREPAY_SHORT_BUFFER, too_short, sizeof too_short / sizeof *too_short, "a buffer shorter than the page is 16");
+    expect(prepay_summary(account, month).code == PREPAY_OK, "a month that has a page has figures");
+    wanted_len = 0;
+}
+
+/* A month without a page, whatever the buffer. */
+static void no_page(const prepay_account *account, uint32_t month, uint64_t code, const char *what) {
+    static const size_t rooms[] = {PREPAY_PAGE_ROOM, 438, 437, 0};
+    answered(account, month, code, rooms, sizeof rooms / sizeof *rooms, what);
+    expect(prepay_summary(account, month).code == code, what);
+}
+
+/* A page without payments, energy or charges but for what is named. */
+static void plain(const char *month, const char *kind, const char *sum, const char *usage, const char *average) {
+    line(month, "");
+    line(usage, "0.00");
+    for (const char *const *k = (const char *const[]){"Kind 3", "Kind 4", "Kind 5", NULL}; *k; k++)
+        line(*k, strcmp(*k, kind) == 0 ? sum : "0.00");
+    line("Average", average);
+}
+
+/* Document 02, T-02. */
+static void pages(void) {
+    const uint64_t most = UINT64_C(1) << 40; /* of a sum of charges */
+    prepay_account account;
+
+    /* The account of the events above: payments 2 and 3 are reversed. */
+    line("Month 2024-03", "");
+    line("Paid 2024-03-18", "60.01");
+    line("Paid 2024-03-20", "30.01");
+    line("Paid 2024-03-21", "900.11");
+    line("Usage 63111 Wh", "11.79");
+    line("Kind 3", "0.37");
+    line("Kind 4", "0.41");
+    line("Kind 5", "0.59");
+    line("Average", "209.30");
+    page_is(&one.account, 0, "the page of month 0");
+    plain("Month 2024-04", "", "", "Usage 0 Wh", "");
+    page_is(&one.account, 1, "a month without energy, though it has a charge of kind 1");
+    plain("Month 2025-01", "", "", "Usage 0 Wh", "");
+    page_is(&one.account, 10, "a month of the next year");
+    plain("Month 2025-04", "", "", "Usage 0 Wh", "");
+    page_is(&one.account, 13, "the last month");
+    no_page(&one.account, 14, PREPAY_BAD_FIELD, "month 14 without days is 3");
+    no_page(&one.account, 15, PREPAY_BAD_FIELD, "month 15 is 3");
+    no_page(&one.account, UINT32_MAX, PREPAY_BAD_FIELD, "a month past all is 3");
+    memset(&account, 0, sizeof account);
+    no_page(&account, 0, PREPAY_NO_ACCOUNT, "zeros are no account");
+    no_page(&account, 15, PREPAY_NO_ACCOUNT, "before any month is looked at");
+
+    /* Month 14: of an account opened on 2024-01-27 it has day 399 alone, of one opened a day earlier none. */
+    prepay_terms late = terms;
+    const prepay_event last = {.sort = PREPAY_PAY, .day = 399, .amount = 10000000};
+    late.month = 1, late.day = 27;
+    expect(prepay_open(&account, &late) == PREPAY_OK && prepay_post(&account, &last).code == PREPAY_OK, "a payment on the last day");
+    line("Month 2025-03", "");
+    line("Paid 2025-03-01", "100000.00");
+    line("Usage 0 Wh", "0.00");
+    line("Kind 3", "0.00");
+    line("Kind 4", "0.00");
+    line("Kind 5", "0.00");
+    line("Average", "");
+    page_is(&account, 14, "month 14 with a day");
+    account.charges[5 * 14] = most + 1;
+    no_page(&account, 14, PREPAY_NO_ACCOUNT, "month 14 with a day and a sum that no account has is 1");
+    late.day = 26;
+    expect(prepay_open(&account, &late) == PREPAY_OK && prepay_post(&account, &last).code == PREPAY_OK, "a payment on the last day");
+    no_page(&account, 14, PREPAY_BAD_FIELD, "month 14 without days is 3");
+
+    /* The sums of charges, by kind, at 2^40 and above it. */
+    static const char *const kinds[] = {"Kind 1", "Kind 2", "Kind 3", "Kind 4", "Kind 5"};
+    for (uint32_t kind = 0; kind < PREPAY_CHARGE_KINDS; kind++) {
+        expect(prepay_open(&account, &terms) == PREPAY_OK, "prepay_open answers 0");
+        account.charges[5 * 2 + kind] = most;
+        plain("Month 2024-05", kinds[kind], "10995116277.76", "Usage 0 Wh", "");
+        page_is(&account, 2, "a sum of 2^40 has a page");
+        account.charges[5 * 2 + kind] = account.charges[5 * 14 + kind] = most + 1;
+        no_page(&account, 2, PREPAY_NO_ACCOUNT, "a sum above 2^40, of any kind, is 1");
+        no_page(&account, 14, PREPAY_BAD_FIELD, "but 3 in a month without days");
+        plain("Month 2024-06", "", "", "Usage 0 Wh", "");
+        page_is(&account, 3, "and nothing in another month");
+    }
+
+    /* The widest average, and a wider one. */
+    expect(prepay_open(&account, &terms) == PREPAY_OK, "prepay_open answers 0");
+    account.days[0] = (prepay_day){.state = 2, .wh = 20000, .cost = 0};
+    account.charges[0] = most;
+    account.charges[1] = UINT64_C(2000000000000) - most - 1;
+    plain("Month 2024-03", "", "", "Usage 20000 Wh", "99999999999.95");
+    page_is(&account, 0, "an average of 14 columns");
+    account.charges[1]++;
+    plain("Month 2024-03", "", "", "Usage 20000 Wh", "");
+    page_is(&account, 0, "an average of 15 columns is spaces");
+
+    /* PREPAY_MAX_PAYMENTS payments of one month; then one of them is reversed. */
+    char date[16], amount[16];
+    expect(prepay_open(&account, &terms) == PREPAY_OK, "prepay_open answers 0");
+    for (uint32_t n = 0; n < PREPAY_MAX_PAYMENTS; n++) {
+        const prepay_event pay = {.sort = PREPAY_PAY, .day = n / 10, .amount = 5 + 77777 * n};
+        expect(prepay_post(&account, &pay).code == PREPAY_OK, "a payment is accepted");
+    }
+    for (int reversed = 0; reversed <= 1; reversed++) {
+        const prepay_event reverse = {.sort = PREPAY_REVERSE, .day = 20, .number = 77};
+        if (reversed)
+            expect(prepay_post(&account, &reverse).code == PREPAY_OK, "its reversal is accepted");
+        line("Month 2024-03", "");
+        for (uint32_t n = 0; n < PREPAY_MAX_PAYMENTS; n++) {
+            snprintf(date, sizeof date, "Paid 2024-03-%02u", 18 + n / 10);
+            snprintf(amount, sizeof amount, "%u.%02u", (5 + 77777 * n) / 100, (5 + 77777 * n) % 100);
+            if (!reversed || n != 77)
+                line(date, amount);
+        }
+        line("Usage 0 Wh", "0.00");
+        line("Kind 3", "0.00");
+        line("Kind 4", "0.00");
+        line("Kind 5", "0.00");
+        line("Average", "");
+        expect(wanted_len == PREPAY_PAGE_ROOM - (reversed ? 73 : 0), "the longest page fills PREPAY_PAGE_ROOM");
+        page_is(&account, 0, "payments of one month, by number");
+    }
+}
+
 int main(int argc, char **argv) {
     if (argc == 2 && strcmp(argv[1], "print") == 0) {
         print();
@@ -408,6 +561,7 @@ int main(int argc, char **argv) {
     opening();
     figures();
     account_fields();
+    pages();
     rows();
     reading();
     names();

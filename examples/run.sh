@@ -1,8 +1,8 @@
 #!/usr/bin/env bash
 # The C interface from outside: builds the library where it is missing or older than the crates, and the programs here, runs them, and holds
-# them to the stored output and to the programs `prepay` and `summary`. Needs `rt`, python3 and a C compiler. What else it would use and does
-# not find, it says. The last line is `examples: passed`, the status 0, if all held; the status is 1 where something did not, and 2 where it
-# could not run: then it says what is missing. Of the repository it writes target/ and the crates' out/.
+# them to the stored output and to the programs `prepay`, `summary` and `page`. Needs `rt`, python3 and a C compiler. What else it would use
+# and does not find, it says. The last line is `examples: passed`, the status 0, if all held; the status is 1 where something did not, and 2
+# where it could not run: then it says what is missing. Of the repository it writes target/ and the crates' out/.
 #   examples/run.sh          all: the header as C99, C11 and C++11, what the library calls, the structs as Rattle proves them (some minutes
 #                            after a change of the crates), strange memory, and the programs under valgrind
 #   examples/run.sh gate     the gate's part: the example, and the structs by what the library does
@@ -66,16 +66,16 @@ sed 's/^share=.*/share=051/' crates/prepay/stdin >"$work/malformed"
 head -c 65537 /dev/zero | cat crates/prepay/stdin - >"$work/long"
 printf '%s\n' day=5 do=price price=2500 day=6 do=estimate usage=4 wh=30000 day=6 do=read usage=5 wh=30000 |
     cat crates/prepay/stdin - >"$work/priced"
-prepay=crates/prepay/out/prepay summary=crates/summary/out/summary
-if [[ -x $prepay && -x $summary ]]; then
-    for text in crates/prepay/stdin crates/summary/stdin "$work"/{cut,refused,malformed,long,priced} /dev/null; do
-        lines=$("$prepay" <"$text") months=$("$summary" <"$text")
-        printf '%s\n' "# event by event" "$lines" "# months" "$months" "# prepay_transcript" "$lines" "# prepay_statement" "$months" \
-            >"$work/programs.out"
-        "$work/example" "$text" | diff - "$work/programs.out" || fail "example $text is not what prepay and summary print"
+prepay=crates/prepay/out/prepay summary=crates/summary/out/summary page=crates/page/out/page
+if [[ -x $prepay && -x $summary && -x $page ]]; then
+    for text in crates/{prepay,summary,page}/stdin "$work"/{cut,refused,malformed,long,priced} /dev/null; do
+        lines=$("$prepay" <"$text") months=$("$summary" <"$text") pages=$(for month in {0..14}; do "$page" "$month" <"$text"; done)
+        printf '%s\n' "# event by event" "$lines" "# months" "$months" "# pages" "$pages" "# prepay_transcript" "$lines" \
+            "# prepay_statement" "$months" >"$work/programs.out"
+        "$work/example" "$text" | diff - "$work/programs.out" || fail "example $text is not what prepay, summary and page print"
     done
 else
-    say "no $prepay or no $summary: the texts are not held to them"
+    say "no $prepay, $summary or $page: the texts are not held to them"
 fi
 
 # The structs, by what the library does.

@@ -30,7 +30,7 @@ static void fill(void *at, size_t count) {
         ((uint8_t *)at)[i] = (uint8_t)next();
 }
 
-static unsigned long wrong, no_accounts, accounts, refused, accepted, readings;
+static unsigned long wrong, no_accounts, accounts, refused, accepted, readings, pages, lines;
 
 static void expect(int held, const char *what) {
     if (!held && wrong++ < 20)
@@ -55,13 +55,19 @@ static prepay_account *a; /* the account, in closed pages */
 enum { MOST = 40 };
 static prepay_event *row;
 static uint8_t *codes;
+static uint8_t *page; /* PREPAY_PAGE_ROOM bytes that end at a closed page */
 
-static const uint64_t MAX_TOTAL = UINT64_C(1) << 60;
-static int within_limits(const prepay_terms *t) {
+static const uint64_t MAX_TOTAL = UINT64_C(1) << 60, MAX_CHARGES = UINT64_C(1) << 40;
+
+/* Of years 2000 to 2101. */
+static uint32_t days_in(uint32_t year, uint32_t month) {
     static const uint32_t days[] = {31, 28, 31, 30, 31, 30, 31, 31, 30, 31, 30, 31};
-    return t->year >= 2000 && t->year <= 2099 && t->month >= 1 && t->month <= 12 && t->day >= 1 &&
-           t->day <= days[t->month - 1] + (t->month == 2 && t->year % 4 == 0) && t->price >= 1 && t->price <= 99999 &&
-           t->connect <= 7500 && t->cutoff <= 1000 && t->cutoff <= t->connect && t->share <= 50;
+    return days[month - 1] + (month == 2 && year % 4 == 0 && year != 2100);
+}
+
+static int within_limits(const prepay_terms *t) {
+    return t->year >= 2000 && t->year <= 2099 && t->month >= 1 && t->month <= 12 && t->day >= 1 && t->day <= days_in(t->year, t->month) &&
+           t->price >= 1 && t->price <= 99999 && t->connect <= 7500 && t->cutoff <= 1000 && t->cutoff <= t->connect && t->share <= 50;
 }
 
 static int is_account(void) {
@@ -104,6 +110,115 @@ static uint32_t cell_of(const prepay_account *of, uint32_t day) {
     return cell;
 }
 
+/* The dates of an account's days, and how many months they are in. */
+static struct {
+    uint32_t year, month, day, from_opening;
+} dates[PREPAY_DAYS];
+static uint32_t months;
+
+static void count_days(void) {
+    uint32_t year = a->terms.year, month = a->terms.month, day = a->terms.day;
+    months = 0;
+    for (size_t i = 0; i < PREPAY_DAYS; i++) {
+        dates[i].year = year, dates[i].month = month, dates[i].day = day, dates[i].from_opening = months;
+        if (++day > days_in(year, month))
+            day = 1, months++, year += month == 12, month = month % 12 + 1;
+    }
+    months = dates[PREPAY_DAYS - 1].from_opening + 1;
+}
+
+/* One more line of the page that is wanted: a label from column 1, a figure in hundredths that ends in column 72. */
+static char wanted[PREPAY_PAGE_ROOM + 1];
+static size_t wanted_len;
+
+static void line(const char *label, uint64_t hundredths, int spaces) {
+    char figure[24] = "";
+    if (!spaces)
+        snprintf(figure, sizeof figure, "%" PRIu64 ".%02" PRIu64, hundredths / 100, hundredths % 100);
+    size_t room = sizeof wanted - wanted_len;
+    expect(strlen(label) < 58 && strlen(figure) <= 14 && room > 73, "labels and figures never meet, and the page has its room");
+    int put = snprintf(wanted + wanted_len, room, "%-58s%14s\n", label, figure);
+    wanted_len += (size_t)put < room ? (size_t)put : room - 1;
+    lines++;
+}
+
+/* The page of a month, of its figures and the payments' numbers. */
+static void lay_out(uint32_t month, const prepay_figures *f) {
+    char label[64];
+    wanted_len = 0;
+    size_t first = 0;
+    while (dates[first].from_opening != month)
+        first++;
+    snprintf(label, sizeof label, "Month %04u-%02u", dates[first].year, dates[first].month);
+    line(label, 0, 1);
+    uint64_t kept = 0, sum = 0;
+    for (uint32_t n = 0; n < a->totals.count; n++) {
+        const prepay_payment *p = &a->payments[n];
+        if (p->day < PREPAY_DAYS && dates[p->day].from_opening == month && p->reversed != 1) {
+            snprintf(label, sizeof label, "Paid %04u-%02u-%02u", dates[p->day].year, dates[p->day].month, dates[p->day].day);
+            line(label, p->amount, 0);
+            kept++, sum += p->amount;
+        }
+    }
+    expect(kept == f->kept_count && sum == f->kept_sum, "the page's payments are those of the figures");
+    snprintf(label, sizeof label, "Usage %" PRIu64 " Wh", f->metered_wh + f->estimated_wh);
+    line(label, f->metered_cost + f->estimated_cost, 0);
+    line("Kind 3", f->charges[2], 0);
+    line("Kind 4", f->charges[3], 0);
+    line("Kind 5", f->charges[4], 0);
+    line("Average", f->average, f->missing || f->average > UINT64_C(9999999999999));
+}
+
+/* Asks for a page in a buffer of `length` bytes that ends at the closed page. */
+static prepay_answer paged(uint32_t month, size_t length) {
+    memset(page, 0xEE, PREPAY_PAGE_ROOM);
+    return prepay_page(a, month, page + (PREPAY_PAGE_ROOM - length), length);
+}
+
+/* Whether of the buffer of `length` bytes the first `written` are the wanted page, and all the other bytes as they were. */
+static int is_page(size_t length, size_t written) {
+    static uint8_t were[PREPAY_PAGE_ROOM];
+    size_t from = PREPAY_PAGE_ROOM - length;
+    memset(were, 0xEE, sizeof were);
+    return memcmp(page, were, from) == 0 && memcmp(page + from, wanted, written) == 0 &&
+           memcmp(page + from + written, were, length - written) == 0;
+}
+
+/* The figures of a month and its page. */
+static void read_month(int account, uint32_t month) {
+    static const prepay_figures zeros;
+    prepay_figures f = prepay_summary(a, month);
+    uint64_t code = PREPAY_OK;
+    if (!account)
+        code = PREPAY_NO_ACCOUNT;
+    else if (month >= months)
+        code = PREPAY_BAD_FIELD;
+    else
+        for (uint32_t kind = 0; kind < PREPAY_CHARGE_KINDS; kind++)
+            if (a->charges[PREPAY_CHARGE_KINDS * month + kind] > MAX_CHARGES)
+                code = PREPAY_NO_ACCOUNT;
+    expect(f.code == code, "a month's code");
+    if (f.code != PREPAY_OK) {
+        size_t length = below(2) ? PREPAY_PAGE_ROOM : below(PREPAY_PAGE_ROOM);
+        prepay_answer answer = paged(month, length);
+        expect(answer.code == f.code && answer.value == 0 && is_page(length, 0), "a page is refused as the figures are, and not written");
+        f.code = 0;
+        expect(memcmp(&f, &zeros, sizeof f) == 0, "the figures of a refused month are 0");
+        return;
+    }
+    if (code != PREPAY_OK)
+        return;
+    lay_out(month, &f);
+    for (int fits = 0; fits <= 1; fits++) {
+        size_t length = fits ? (below(4) ? wanted_len : PREPAY_PAGE_ROOM) : below(2) ? wanted_len - 1 : below((uint32_t)wanted_len);
+        size_t written = fits ? wanted_len : 0;
+        prepay_answer answer = paged(month, length);
+        expect(answer.code == (fits ? PREPAY_OK : PREPAY_SHORT_BUFFER) && answer.value == written, "a page's code and length");
+        expect(is_page(length, written), "the page is laid out by the figures, and nothing else is written");
+    }
+    pages++;
+}
+
 /* Whether an event may be answered so. */
 static int may_be(uint64_t code, int account, const prepay_account *was, const prepay_event *e) {
     if (!account)
@@ -136,15 +251,10 @@ static void feed(void) {
     expect(r.balance == (sums ? (int64_t)(t->credit - t->debit) : 0), "the balance is credit less debit, or 0");
     expect(r.settled == (all ? (int64_t)(t->credit - t->debit - t->plan + t->standing) : 0), "the settled amount is the totals', or 0");
     expect(r.plan == t->plan && r.estimates == t->standing && r.service == (t->on == 1), "plan, estimates and service are the numbers'");
-    for (uint32_t i = 0; i < 18; i++) {
-        static const prepay_figures zeros;
-        uint32_t month = i < 16 ? i : i == 16 ? UINT32_MAX : any_number();
-        prepay_figures f = prepay_summary(a, month);
-        uint64_t code = f.code;
-        expect(!account ? code == 1 : month > 14 ? code == 3 : code == 0 || code == 3 || code == 1, "a month's code");
-        f.code = 0;
-        expect(code == 0 || memcmp(&f, &zeros, sizeof f) == 0, "the figures of a refused month are 0");
-    }
+    if (account)
+        count_days();
+    for (uint32_t i = 0; i < 18; i++)
+        read_month(account, i < 16 ? i : i == 16 ? UINT32_MAX : any_number());
     expect(memcmp(a, &was, sizeof was) == 0, "reading leaves the numbers as they are");
 
     for (uint32_t sort = 0; sort <= 14; sort++) {
@@ -261,12 +371,28 @@ static void strange_accounts(void) {
                 a->prices[k] = (prepay_price){i % 4 < 2 ? step * k + below(step) : any_number(), below(2) ? 99999 + below(2) : any_number()};
         feed();
     }
-    /* A good account with one number replaced, by width in turn, totals, terms and prices more; wide ones at 2^60 and above it. */
+    /* A good account with any opening date, payments and usage days, and charges up to their limit, seldom one above it. */
+    for (int i = 0; i < 500; i++) {
+        *a = base;
+        a->terms.year = 2000 + below(100), a->terms.month = 1 + below(12), a->terms.day = 1 + below(28);
+        a->totals.count = below(4) ? below(PREPAY_MAX_PAYMENTS + 1) : PREPAY_MAX_PAYMENTS;
+        uint32_t within = below(3) ? 1 + below(PREPAY_DAYS) : 28;
+        for (uint32_t n = 0; n < PREPAY_MAX_PAYMENTS; n++)
+            a->payments[n] = (prepay_payment){below(within), any_number(), any_number(), below(4) ? 0 : below(3)};
+        for (uint32_t n = 0; n < PREPAY_MONTHS * PREPAY_CHARGE_KINDS; n++)
+            a->charges[n] = below(4) == 0 ? 0 : below(2) ? below(10000000) : MAX_CHARGES - (below(2) ? below(3) : next() % MAX_CHARGES);
+        if (below(4) == 0)
+            a->charges[below(PREPAY_MONTHS * PREPAY_CHARGE_KINDS)] = MAX_CHARGES + below(3);
+        for (uint32_t d = 0; d < PREPAY_DAYS; d++)
+            a->days[d] = (prepay_day){below(within) < 10 ? below(4) : 0, below(2) ? below(3) : any_number(), any_number()};
+        feed();
+    }
+    /* A good account with one number replaced, by width in turn, totals, terms and prices more; wide ones at 2^60, at 2^40 and above them. */
     for (int i = 0; i < 3000; i++) {
         *a = base;
         uint8_t *bytes = (uint8_t *)a;
         enum { WIDE = offsetof(prepay_account, terms) / 8, NARROW = (offsetof(prepay_account, marks) - offsetof(prepay_account, terms)) / 4 };
-        uint64_t wide = below(2) ? MAX_TOTAL + below(2) : (uint64_t)any_number() << (below(2) * 32);
+        uint64_t wide = below(2) ? (below(2) ? MAX_TOTAL : MAX_CHARGES) + below(2) : (uint64_t)any_number() << (below(2) * 32);
         uint32_t narrow = any_number();
         if (i % 3 == 0)
             memcpy(bytes + 8 * below(below(2) ? 4 : WIDE), &wide, sizeof wide);
@@ -336,11 +462,13 @@ int main(int argc, char **argv) {
             a = fenced(sizeof *a, at_end);
             row = fenced(MOST * sizeof *row, 1);
             codes = fenced(MOST, 1);
+            page = fenced(PREPAY_PAGE_ROOM, 1);
             strange_accounts();
             strange_readers(fenced(sizeof(prepay_reader), at_end), fenced(sizeof(prepay_terms), at_end), fenced(sizeof(prepay_event), at_end));
         }
     }
-    printf("strange memory: an account %lu times, none %lu times; events accepted %lu, refused %lu; events read %lu: %s\n", accounts,
-           no_accounts, accepted, refused, readings, wrong ? "WRONG" : "as head.h has it");
+    printf("strange memory: an account %lu times, none %lu times; events accepted %lu, refused %lu; pages %lu of %lu lines; events read %lu: "
+           "%s\n",
+           accounts, no_accounts, accepted, refused, pages, lines, readings, wrong ? "WRONG" : "as head.h has it");
     return wrong != 0;
 }

@@ -1,7 +1,8 @@
 /* The account of a prepay meter head: the C interface of libhead.a (`rt lib` in crates/head). C99 or later, C++11 or later.
  *
  * An account stands in the caller's memory as a prepay_account; the calls work on it in place. Firmware reads an event text by
- * prepay_read_terms and prepay_read_event and posts it event by event. prepay_transcript and prepay_statement print a whole text.
+ * prepay_read_terms and prepay_read_event and posts it event by event. prepay_page lays out a month for paper. prepay_transcript and
+ * prepay_statement print a whole text.
  *
  * Units: amounts in cents, energy in Wh; days from the opening day, 0 to 399; months from the opening month, 0 to 14.
  *
@@ -29,7 +30,7 @@
 
 /* The version of this interface: another number where a call, a struct or the meaning of an account's numbers is another. An account that
  * is kept over a change of firmware is kept with this number; its own numbers do not have it. */
-#define PREPAY_VERSION 3
+#define PREPAY_VERSION 4
 
 /* Limits. */
 #define PREPAY_DAYS 400
@@ -39,6 +40,8 @@
 #define PREPAY_MAX_PAYMENTS 128
 #define PREPAY_PRICE_CELLS 17
 #define PREPAY_MAX_TEXT 65536
+/* The buffer that holds any page of an account. */
+#define PREPAY_PAGE_ROOM 9782
 /* The output buffers of prepay_transcript and prepay_statement. */
 #define PREPAY_TRANSCRIPT_ROOM 655360
 #define PREPAY_STATEMENT_ROOM 8192
@@ -61,7 +64,7 @@ enum {
     PREPAY_NO_WARNING = 13,      /* no warning one to seven days old */
     PREPAY_DAY_BARRED = 14,
     PREPAY_BAD_TEXT = 15,        /* text malformed, or longer than 65,536 bytes */
-    PREPAY_SHORT_BUFFER = 16,    /* shorter than the row */
+    PREPAY_SHORT_BUFFER = 16,    /* shorter than the row or the page */
     PREPAY_PRICES_FULL = 17,     /* 16 days after day 0 have a price, and this day is not among them */
     PREPAY_END = 255             /* prepay_read_event: the text has no further event */
 };
@@ -167,8 +170,8 @@ typedef struct {
 #define PREPAY_ACCOUNT_SIZE 8464
 #define PREPAY_ACCOUNT_ALIGN 8
 
-/* What an event is answered: its code; and, where that is 0, the payment's number (pay), the usage day's cost (estimate, read) or the plan's
- * sum (plan). The value is 0 in every other case. */
+/* What an event or a page is answered: its code; and, where that is 0, the payment's number (pay), the usage day's cost (estimate, read), the
+ * plan's sum (plan) or the page's length. The value is 0 in every other case. */
 typedef struct {
     uint64_t code, value;
 } prepay_answer;
@@ -183,7 +186,7 @@ typedef struct {
 } prepay_reading;
 
 /* The figures of a month. The code is 1 for no account, then 3 for a month that holds none of days 0 to 399, then 1 where the month's
- * charges of kind 1 or 2 are above 2^40, as no account's are. Where it is not 0, all else is 0. */
+ * charges of some kind are above 2^40, as no account's are. Where it is not 0, all else is 0. */
 typedef struct {
     uint64_t code;
     uint64_t kept_count, kept_sum;         /* payments of the month, not reversed */
@@ -218,6 +221,7 @@ PREPAY_HOLDS(sizeof(prepay_reader) == 2 * sizeof(uint32_t));
 PREPAY_HOLDS(sizeof(prepay_answer) == 2 * sizeof(uint64_t));
 PREPAY_HOLDS(sizeof(prepay_reading) == 5 * sizeof(uint64_t));
 PREPAY_HOLDS(sizeof(prepay_figures) == (11 + PREPAY_CHARGE_KINDS) * sizeof(uint64_t));
+PREPAY_HOLDS(PREPAY_PAGE_ROOM == 73 * (6 + PREPAY_MAX_PAYMENTS));
 #undef PREPAY_HOLDS
 #undef PREPAY_ALIGN_OF
 #endif
@@ -246,6 +250,17 @@ prepay_reading prepay_readings(const prepay_account *account);
 
 /* The figures of month `month`, 0 being the opening month. */
 prepay_figures prepay_summary(const prepay_account *account, uint32_t month);
+
+/* Lays the page of month `month` into `out`, from its start: lines of 72 columns and a line feed. Answers 0 and the page's length in bytes,
+ * 438 and 73 for each payment of the month that is kept; the bytes after the page stay as they are. Or answers, with value 0 and `out` as it
+ * was: what prepay_summary answers where that is not 0 (1, 3), then 16 where `out` has fewer bytes than the page.
+ * The lines, each label from column 1, each figure with two decimals in the last 14 columns, its end in column 72, all else spaces:
+ *   Month YYYY-MM           no figure
+ *   Paid YYYY-MM-DD         dollars; a line for each payment of the month that is kept, by number
+ *   Usage N Wh              the cost in dollars; N is metered and estimated energy together, and so is the cost
+ *   Kind 3, Kind 4, Kind 5  dollars; a line for each of these kinds of charges
+ *   Average                 cents per kWh; spaces where there is no energy, or where it is wider than 14 columns */
+prepay_answer prepay_page(const prepay_account *account, uint32_t month, uint8_t *out, size_t out_len);
 
 /* ---- an event text, event by event */
 
