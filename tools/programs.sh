@@ -1,11 +1,12 @@
 #!/bin/bash
-# The programs `prepay` and `summary` in rough hands: broken texts, and inputs and outputs that fail. It needs both programs as built, and python3.
+# The programs `prepay`, `summary` and `page` in rough hands: broken texts, wrong arguments, and inputs and outputs that fail; and the pages of
+# texts. It needs the programs as built, and python3.
 #   bash tools/programs.sh           tries each case: standard output, standard error and status (a line for each that isn't as expected)
 #   bash tools/programs.sh --stack   measures the least stack with which each ran every time
 # Status 0: all as expected; 1: something is not; 2: something is missing, which it names.
 cd "$(dirname "$0")/.." || exit 2
 command -v python3 > /dev/null || { echo "programs.sh: python3 is missing"; exit 2; }
-for program in prepay summary; do
+for program in prepay summary page; do
     if [[ ! -x crates/$program/out/$program ]]; then
         echo "programs.sh: crates/$program/out/$program is missing: (cd crates/$program && rt run < /dev/null) builds it"
         exit 2
@@ -14,7 +15,9 @@ done
 exec python3 - "$@" << 'PYTHON'
 import fcntl, os, resource, signal, subprocess, sys, threading, time
 
-PROGRAMS = {name: os.path.abspath(f"crates/{name}/out/{name}") for name in ("prepay", "summary")}
+PROGRAMS = {name: os.path.abspath(f"crates/{name}/out/{name}") for name in ("prepay", "summary", "page")}
+# what a program is given where a case gives it nothing else: `page` the opening month
+ARGUMENTS = {"prepay": (), "summary": (), "page": ("0",)}
 
 
 def stored(path):
@@ -28,6 +31,9 @@ SUMMARY_TEXT = stored("crates/summary/stdin")
 SUMMARY_LINES = stored("crates/summary/stdout")
 # its event 318 breaks the form, as its make_text.py says
 SUMMARY_SAID = b"line 1156: event 318 breaks the form\n"
+PAGE_TEXT = stored("crates/page/stdin")
+PAGE_LINES = stored("crates/page/stdout")
+PAGE_SAID = b"line 158: event 44 breaks the form\n"
 
 # a text of exactly 65,536 bytes: warnings of 14 bytes on day 0, then of 15 bytes on day 10; the first 4,096 are accepted
 TERMS = b"".join(WORKED.splitlines(keepends=True)[:5])
@@ -44,8 +50,9 @@ def limited(stack):
     return None if stack is None else lambda: resource.setrlimit(resource.RLIMIT_STACK, (stack, stack))
 
 
-def run(name, text, stack=None):
-    done = subprocess.run([PROGRAMS[name]], input=text, capture_output=True, preexec_fn=limited(stack), timeout=60)
+def run(name, text, *arguments, stack=None):
+    command = [PROGRAMS[name], *(arguments or ARGUMENTS[name])]
+    done = subprocess.run(command, input=text, capture_output=True, preexec_fn=limited(stack), timeout=60)
     return done.stdout, done.stderr, done.returncode
 
 
@@ -55,7 +62,7 @@ def least_stack(name, text):
     sound = run(name, text)
     holds = None
     for kib in range(320, 15, -4):
-        if any(run(name, text, kib * 1024) != sound for _ in range(60)):
+        if any(run(name, text, stack=kib * 1024) != sound for _ in range(60)):
             return holds
         holds = kib
     return holds
@@ -168,7 +175,18 @@ def metered(count, paid, wh, cost, average):
     return line % (0, 0, count, paid, wh, cost, average, 0) + later + line % (14, 3, 0, 0, 0, 0, 0, 0)
 
 
-# a text, what `prepay` prints and says of it, and the text of which `summary` prints the same months
+def paper(month, paid, usage, kinds, average):
+    """the page: of payments date and figure, of usage Wh and figure, the figures of kinds 3 to 5"""
+    page_lines = [(f"Month {month}", ""), *((f"Paid {date}", figure) for date, figure in paid), (f"Usage {usage[0]} Wh", usage[1])]
+    page_lines += [*((f"Kind {kind}", figure) for kind, figure in zip((3, 4, 5), kinds)), ("Average", average)]
+    return "".join(f"{label:<58}{figure:>14}\n" for label, figure in page_lines).encode()
+
+
+NONE = ("0.00",) * 3
+NO_WH = (0, "0.00")
+NO_MONTH = b"code=3 value=0\n"
+
+# a text, what `prepay` prints and says of it, and the text of which `summary` prints the same months and `page` the same page
 TEXTS = [
     ("sound", WORKED, (b"".join(WORKED_LINES), b""), WORKED),
     ("no bytes", b"", IN_TERMS, None),
@@ -198,13 +216,63 @@ TEXTS = [
 
 for title, text, (out, message), sound in TEXTS:
     expect(f"prepay, {title}", run("prepay", text), (out, message, 0))
-    months = out if sound is None else run("summary", sound)[0]
-    expect(f"summary, {title}", run("summary", text), (months, message, 0))
+    for name in "summary", "page":
+        printed = out if sound is None else run(name, sound)[0]
+        expect(f"{name}, {title}", run(name, text), (printed, message, 0))
+    expect(f"page, {title}, no month", run("page", text, "15"), (out if sound is None else NO_MONTH, message, 0))
 expect("prepay, a price in mid-year", run("prepay", PRICED), (PRICED_LINES, b"", 0))
 expect("summary, a price in mid-year", run("summary", PRICED), (metered(1, 6000, 62000, 1150, 1855), b"", 0))
 expect("prepay, prices of sixteen later days", run("prepay", SIXTEEN), (SIXTEEN_LINES, b"", 0))
 expect("summary, prices of sixteen later days", run("summary", SIXTEEN), (metered(0, 0, 400000, 111499, 27875), b"", 0))
 expect("summary, its stored text", run("summary", SUMMARY_TEXT), (SUMMARY_LINES, SUMMARY_SAID, 0))
+
+# ---- pages
+
+PAGE = paper("2024-01", [("2024-01-01", "60.00"), ("2024-01-06", "40.00")], (32000, "4.00"), NONE, "159.38")
+# 1 Wh costs nothing; its month is charged 99,999,999 cents of kind 1, then a cent more
+DEAR = TERMS + b"day=1\ndo=read\nusage=0\nwh=1\n" + b"day=1\ndo=charge\nkind=1\namount=10000000\n" * 9
+DEAR += b"day=1\ndo=charge\nkind=1\namount=9999999\n"
+DEARER = DEAR + b"day=1\ndo=charge\nkind=1\namount=1\n"
+# ten payments a day, and one more than the account takes
+MOST = TERMS + b"".join(b"day=%d\ndo=pay\namount=%d\n" % (n // 10, 5 + 77777 * n) for n in range(129))
+MOST_PAID = [(f"2024-01-{1 + n // 10:02}", "%d.%02d" % divmod(5 + 77777 * n, 100)) for n in range(128)]
+LONGEST_PAGE = paper("2024-01", MOST_PAID, NO_WH, NONE, "")
+assert len(LONGEST_PAGE) == 9782
+REVERSED = b"day=20\ndo=reverse\nnumber=0\nday=20\ndo=reverse\nnumber=127\nday=20\ndo=reverse\nnumber=64\n"
+MOST_LEFT = [MOST_PAID[n] for n in range(128) if n not in (0, 64, 127)]
+NO_ENERGY = TERMS + b"day=1\ndo=read\nusage=0\nwh=0\nday=1\ndo=charge\nkind=2\namount=500\nday=1\ndo=charge\nkind=3\namount=40\n"
+PAID_LAST = b"day=399\ndo=pay\namount=1\n"
+
+
+def opened(date):
+    return b"open=%s\n" % date + b"".join(lines[1:5])
+
+
+# a text, the month, its page
+PAGES = [
+    ("the worked example", WORKED, "0", PAGE),
+    ("a month without events", WORKED, "1", paper("2024-02", [], NO_WH, NONE, "")),
+    ("a price in mid-year", PRICED, "0", paper("2024-01", [("2024-01-01", "60.00")], (62000, "11.50"), NONE, "18.55")),
+    ("prices of sixteen later days", SIXTEEN, "0", paper("2024-01", [], (400000, "1114.99"), NONE, "278.75")),
+    ("a month without energy", NO_ENERGY, "0", paper("2024-01", [], NO_WH, ("0.40", "0.00", "0.00"), "")),
+    ("the widest average", DEAR, "0", paper("2024-01", [], (1, "0.00"), NONE, "99999999000.00")),
+    ("a wider average", DEARER, "0", paper("2024-01", [], (1, "0.00"), NONE, "")),
+    ("128 payments", MOST, "0", LONGEST_PAGE),
+    ("125 payments and three reversed", MOST + REVERSED, "0", paper("2024-01", MOST_LEFT, NO_WH, NONE, "")),
+    ("a year's last month", TERMS, "11", paper("2024-12", [], NO_WH, NONE, "")),
+    ("the next year's first month", TERMS, "12", paper("2025-01", [], NO_WH, NONE, "")),
+    ("month 14 with a day, over a leap day", opened(b"2024-01-27") + PAID_LAST, "14", paper("2025-03", [("2025-03-01", "0.01")], NO_WH, NONE, "")),
+    ("month 14 without days, over a leap day", opened(b"2024-01-26") + PAID_LAST, "14", NO_MONTH),
+    ("month 14 with a day", opened(b"2025-01-26") + PAID_LAST, "14", paper("2026-03", [("2026-03-01", "0.01")], NO_WH, NONE, "")),
+    ("month 14 without days", opened(b"2025-01-25") + PAID_LAST, "14", NO_MONTH),
+    ("month 15", WORKED, "15", NO_MONTH),
+    ("the largest number", WORKED, "4294967295", NO_MONTH),
+]
+for title, text, month, wanted in PAGES:
+    expect(f"page, {title}", run("page", text, month), (wanted, b"", 0))
+expect("page, its stored text", run("page", PAGE_TEXT, "1"), (PAGE_LINES, PAGE_SAID, 0))
+wanted = paper("2025-03", [("2025-03-01", "15.00")], (30040, "7.51"), NONE, "33.32")
+expect("page, month 14 of summary's stored text", run("page", SUMMARY_TEXT, "14"), (wanted, SUMMARY_SAID, 0))
 
 # ---- streams that fail
 
@@ -212,7 +280,7 @@ BROKEN = WORKED + b"\n"
 AFTER = b"line 34: event 11 breaks the form\n"
 
 
-def started(name, text, **streams):
+def started(name, text, *, arguments=None, **streams):
     """runs on a text in a file, or on the standard input that `streams` has"""
     if text is not None:
         source = os.memfd_create("text")
@@ -220,7 +288,8 @@ def started(name, text, **streams):
         os.lseek(source, 0, os.SEEK_SET)
         streams["stdin"] = source
     streams = {"stdout": subprocess.PIPE, "stderr": subprocess.PIPE, **streams}
-    process = subprocess.Popen([PROGRAMS[name]], restore_signals=False, **streams)
+    command = [PROGRAMS[name], *(ARGUMENTS[name] if arguments is None else arguments)]
+    process = subprocess.Popen(command, restore_signals=False, **streams)
     if text is not None:
         os.close(source)
     return process
@@ -267,9 +336,8 @@ def pipe_in_hand(name, text, filled, flags, read_first, action=signal.SIG_DFL):
 
 
 for name in PROGRAMS:
-    months = run("summary", WORKED)[0]
-    whole = b"".join(WORKED_LINES) if name == "prepay" else months
-    last = broken_at(11, 34, 4900, 4900)[0] if name == "prepay" else months
+    whole = run(name, WORKED)[0]
+    last = broken_at(11, 34, 4900, 4900)[0] if name == "prepay" else whole
     for kind, text in ("sound", WORKED), ("broken", BROKEN):
         with open("/dev/full", "wb") as full:
             expect(f"{name}, {kind}, full device", ended(started(name, text, stdout=full)), (b"", FULL, 1))
@@ -296,19 +364,41 @@ for name in PROGRAMS:
         time.sleep(0.001)
     expect(f"{name}, broken, a slow input", ended(process), (last, AFTER, 0))
 
-# Half way: `prepay` on the longest text prints more than a pipe holds. `summary` writes once, all of it or nothing, and waits where the pipe is full.
-# A program ignores SIGPIPE, however it is started.
+# Half way: `prepay` on the longest text and `page` on the fullest month print more than the pipe holds. What fits in it `summary` and `page` write
+# whole or not at all, and wait where it is full. A program ignores SIGPIPE, however it is started.
 for how, action in ("SIGPIPE ignored", signal.SIG_IGN), ("SIGPIPE as it is", signal.SIG_DFL):
     closed = pipe_in_hand("prepay", LONGEST, 0, 0, 6000, action)
     expect(f"prepay, output closed half way, {how}", closed, (LONGEST_LINES[:6000], NO_READER, 1))
-    closed = pipe_in_hand("summary", WORKED, 4096, 0, 0, action)
-    expect(f"summary, output closed half way, {how}", closed, (b"", NO_READER, 1))
+    for name in "summary", "page":
+        closed = pipe_in_hand(name, WORKED, 4096, 0, 0, action)
+        expect(f"{name}, output closed half way, {how}", closed, (b"", NO_READER, 1))
+    closed = pipe_in_hand("page", MOST, 0, 0, 1000, action)
+    expect(f"page, output closed within the page, {how}", closed, (LONGEST_PAGE[:1000], NO_READER, 1))
 expect("prepay, a slow output", pipe_in_hand("prepay", LONGEST, 0, 0, None), (LONGEST_LINES, b"", 0))
 part, said, status = pipe_in_hand("prepay", LONGEST, 0, os.O_NONBLOCK, None)
 expect("prepay, a slow non-blocking output", (part, said, status), (LONGEST_LINES[:len(part)], NOT_NOW, 1))
 expect("prepay, a slow non-blocking output, some of the lines", (0 < len(part) < len(LONGEST_LINES),), (True,))
 expect("summary, a slow output", pipe_in_hand("summary", SUMMARY_TEXT, 4096, 0, None), (SUMMARY_LINES, SUMMARY_SAID, 0))
 expect("summary, a slow non-blocking output", pipe_in_hand("summary", SUMMARY_TEXT, 4096, os.O_NONBLOCK, None), (b"", NOT_NOW, 1))
+expect("page, a slow output", pipe_in_hand("page", MOST, 4096, 0, None), (LONGEST_PAGE, b"", 0))
+expect("page, a slow non-blocking output", pipe_in_hand("page", MOST, 4096, os.O_NONBLOCK, None), (b"", NOT_NOW, 1))
+
+# ---- the argument of `page`
+
+ASKED = b"page: expected one argument, the month, a number as in the event text\n"
+WRONG = [(), ("",), ("0", "0"), ("0", ""), ("", "0"), ("0", "0", "0"), ("01",), ("00",), ("-1",), ("-0",), ("+1",), (" 1",), ("1 ",), ("1\n",),
+         ("1.0",), ("0x1",), ("1e1",), ("one",), ("-h",), ("--",), ("--", "1"), ("\u0661",), (b"\xff",), (b"1\xff",), ("4294967296",),
+         ("42949672950",), ("18446744073709551616",), ("9" * 100000,), ("0" * 100000,)]
+for arguments in WRONG:
+    said = repr(arguments)[:40]
+    source = os.memfd_create("text")
+    os.write(source, WORKED)
+    os.lseek(source, 0, os.SEEK_SET)
+    expect(f"page, {said}", ended(started("page", None, arguments=arguments, stdin=source)), (b"", ASKED, 2))
+    expect(f"page, {said}, its input", (os.lseek(source, 0, os.SEEK_CUR),), (0,))
+    os.close(source)
+expect("page, no argument, closed input", ended(started("page", None, arguments=(), preexec_fn=closing(0))), (b"", ASKED, 2))
+expect("page, no argument, closed output", ended(started("page", None, arguments=(), preexec_fn=closing(1))), (b"", ASKED, 2))
 
 print(f"{cases} cases, {failures} failures")
 sys.exit(1 if failures else 0)
