@@ -69,7 +69,8 @@ printf '%s\n' day=5 do=price price=2500 day=6 do=estimate usage=4 wh=30000 day=6
 prepay=crates/prepay/out/prepay summary=crates/summary/out/summary page=crates/page/out/page
 if [[ -x $prepay && -x $summary && -x $page ]]; then
     for text in crates/{prepay,summary,page}/stdin "$work"/{cut,refused,malformed,long,priced} /dev/null; do
-        lines=$("$prepay" <"$text") months=$("$summary" <"$text") pages=$(for month in {0..14}; do "$page" "$month" <"$text"; done 2>"$work/log")
+        lines=$("$prepay" <"$text") months=$("$summary" <"$text")
+        pages=$(for month in {0..14}; do "$page" "$month" <"$text"; done 2>"$work/log")
         printf '%s\n' "# event by event" "$lines" "# months" "$months" "# pages" "$pages" "# prepay_transcript" "$lines" \
             "# prepay_statement" "$months" >"$work/programs.out"
         "$work/example" "$text" | diff - "$work/programs.out" || fail "example $text is not what prepay, summary and page print"
