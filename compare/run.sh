@@ -2,9 +2,9 @@
 # Compares the Rattle library and programs with the reference.
 # Arguments: number of texts and of lists of calls (default 20000 each), seed (default 1); more are passed
 # on to the comparison (`reference/target/release/compare --help` lists them).
-# The library must have been built by `rt lib` in crates/head, the programs by `rt run </dev/null` in crates/prepay and crates/summary;
-# HEAD_LIBRARY, PREPAY and SUMMARY name others. Programs that are not there are left out, and named. Needs cargo and the C compiler that it
-# links with. The status is 0 without a difference, 1 with one, 2 where it could not run: then it says what is missing.
+# The library must have been built by `rt lib` in crates/head, the programs by `rt run </dev/null` in crates/prepay, crates/summary and
+# crates/page; HEAD_LIBRARY, PREPAY, SUMMARY and PAGE name others. Programs that are not there are left out, and named. Needs cargo and the
+# C compiler that it links with. The status is 0 without a difference, 1 with one, 2 where it could not run: then it says what is missing.
 set -euo pipefail
 cd "$(dirname "$0")"
 count=${1:-20000}
@@ -19,7 +19,8 @@ need "C compiler cc, which cargo links with" command -v cc >/dev/null
 need "$library: run rt lib in crates/head first" test -e "$library"
 [[ $missing == 0 ]] || exit 2
 programs=()
-for pair in "--prepay ${PREPAY:-../crates/prepay/out/prepay}" "--summary ${SUMMARY:-../crates/summary/out/summary}"; do
+for pair in "--prepay ${PREPAY:-../crates/prepay/out/prepay}" "--summary ${SUMMARY:-../crates/summary/out/summary}" \
+    "--page ${PAGE:-../crates/page/out/page}"; do
     read -r option program <<<"$pair"
     if [[ -x $program ]]; then
         programs+=("$option" "$program")

@@ -28,7 +28,7 @@ cp -r ../include "$work/"
 export CARGO_PROFILE_RELEASE_OVERFLOW_CHECKS=false CARGO_PROFILE_RELEASE_DEBUG_ASSERTIONS=false CARGO_PROFILE_RELEASE_OPT_LEVEL=1
 build() {
     CARGO_TARGET_DIR=$work/target cargo build --release --offline --quiet --manifest-path "$mutant/Cargo.toml" \
-        --example shim --bin prepay_ref --bin summary_ref 2>"$work/warnings" || { cat "$work/warnings"; exit 2; }
+        --example shim --bin prepay_ref --bin summary_ref --bin page_ref 2>"$work/warnings" || { cat "$work/warnings"; exit 2; }
 }
 copy() {
     rm -rf "$mutant/src"
@@ -36,7 +36,7 @@ copy() {
 }
 run() {
     LD_LIBRARY_PATH=$work/target/release/examples "$compare" --prepay "$work/target/release/prepay_ref" \
-        --summary "$work/target/release/summary_ref" --texts "$count" --lists "$count" --seed "$seed" \
+        --summary "$work/target/release/summary_ref" --page "$work/target/release/page_ref" --texts "$count" --lists "$count" --seed "$seed" \
         --most-failures 1 --shrink-seconds 5 --failures "$work/failures" "$@" >"$work/log"
 }
 

@@ -29,6 +29,7 @@ pub const PRICE_CELLS: usize = defined("#define PREPAY_PRICE_CELLS ");
 pub const MAX_TEXT: usize = defined("#define PREPAY_MAX_TEXT ");
 pub const TRANSCRIPT_ROOM: usize = defined("#define PREPAY_TRANSCRIPT_ROOM ");
 pub const STATEMENT_ROOM: usize = defined("#define PREPAY_STATEMENT_ROOM ");
+pub const PAGE_ROOM: usize = defined("#define PREPAY_PAGE_ROOM ");
 pub const ACCOUNT_SIZE: usize = defined("#define PREPAY_ACCOUNT_SIZE ");
 /// PREPAY_END.
 pub const END: u8 = 255;
@@ -192,6 +193,7 @@ extern "C" {
     pub fn prepay_row(account: *mut Account, row: *const Event, count: usize, codes: *mut u8, codes_len: usize) -> u8;
     pub fn prepay_readings(account: *const Account) -> Reading;
     pub fn prepay_summary(account: *const Account, month: u32) -> Figures;
+    pub fn prepay_page(account: *const Account, month: u32, out: *mut u8, out_len: usize) -> Answer;
     pub fn prepay_read_terms(text: *const u8, text_len: usize, reader: *mut Reader, terms: *mut Terms) -> u8;
     pub fn prepay_read_event(text: *const u8, text_len: usize, reader: *mut Reader, event: *mut Event) -> u8;
     pub fn prepay_transcript(text: *const u8, text_len: usize, out: *mut u8, out_len: usize) -> usize;
@@ -222,6 +224,10 @@ pub fn readings(account: &Account) -> Reading {
 
 pub fn summary(account: &Account, month: u32) -> Figures {
     unsafe { prepay_summary(account, month) }
+}
+
+pub fn page(account: &Account, month: u32, out: &mut [u8]) -> Answer {
+    unsafe { prepay_page(account, month, out.as_mut_ptr(), out.len()) }
 }
 
 pub fn read_terms(text: &[u8], reader: &mut Reader, terms: &mut Terms) -> u8 {

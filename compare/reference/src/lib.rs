@@ -1,6 +1,6 @@
 //! The prepaid account of document 01, written a second time from the papers
-//! alone (01-scope.md, 00-minutes.md, T-01 of 02-change-requests.md, OPEN-POINTS.md
-//! points 1 to 18; the account in C's memory from include/head.h), to be compared
+//! alone (01-scope.md, 00-minutes.md, T-01 and T-02 of 02-change-requests.md, OPEN-POINTS.md
+//! points 1 to 19; the account in C's memory from include/head.h), to be compared
 //! with the Rattle programs.
 
 pub mod calendar;
@@ -8,6 +8,7 @@ pub mod calendar;
 pub mod head;
 pub mod ledger;
 pub mod numbers;
+pub mod page;
 pub mod rows;
 pub mod summary;
 pub mod text;

@@ -3,6 +3,7 @@
 //! each in a lent buffer". The numbers of the sorts are those of include/head.h.
 
 use crate::ledger::{Answer, Book, Event, Ledger, Terms};
+use crate::page;
 use crate::summary::{summary, Summary};
 
 /// One event record. The fields that its sort does not name are not looked at.
@@ -71,6 +72,14 @@ pub trait Head: Clone {
         match self.book() {
             Some(book) => summary(book, month),
             None => Summary { code: 1, ..Summary::default() },
+        }
+    }
+
+    /// A month's page into a lent buffer: refused as its figures are, then by 16 where the buffer is shorter than the page.
+    fn page(&mut self, month: u32, out: &mut [u8]) -> Answer {
+        match self.book() {
+            Some(book) => page::put(book, month, out),
+            None => Answer { code: 1, value: 0 },
         }
     }
 

@@ -4,6 +4,7 @@
 
 use reference::head as c;
 use reference::numbers::{Numbers, TermCells};
+use reference::page;
 use reference::rows::{Head, Record};
 use reference::summary;
 use reference::text;
@@ -66,6 +67,15 @@ pub unsafe extern "C" fn prepay_summary(account: &Numbers, month: u32) -> c::Fig
             average: s.average as u64,
             missing: s.missing as u64,
         }
+    })
+}
+
+#[no_mangle]
+pub unsafe extern "C" fn prepay_page(account: &Numbers, month: u32, out: *mut u8, out_len: usize) -> c::Answer {
+    let out = std::slice::from_raw_parts_mut(out, out_len);
+    safely(c::Answer { code: 255, value: 0 }, || {
+        let answer = page::put(account, month, out);
+        c::Answer { code: answer.code as u64, value: answer.value as u64 }
     })
 }
 

@@ -66,7 +66,7 @@ pub fn summary(book: &impl Book, m: u32) -> Summary {
         }
     }
     s.kinds = book.charges(m, &in_month);
-    if s.kinds[0] > MOST_CHARGES || s.kinds[1] > MOST_CHARGES {
+    if s.kinds.iter().any(|&sum| sum > MOST_CHARGES) {
         return Summary { code: 1, ..Summary::default() };
     }
     let wh = s.metered_wh + s.estimated_wh;

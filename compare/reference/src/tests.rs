@@ -2,6 +2,7 @@ use crate::calendar::*;
 use crate::head::END;
 use crate::ledger::*;
 use crate::numbers::*;
+use crate::page;
 use crate::rows::*;
 use crate::summary;
 use crate::text::*;
@@ -83,6 +84,138 @@ fn worked_example_summary() {
     // Day 399 is 2025-02-03, month 13.
     assert!(lines[13].starts_with("m=13 code=0 "));
     assert_eq!(lines[14], "m=14 code=3 kept_count=0 kept_sum=0 reversed_count=0 reversed_sum=0 metered_wh=0 metered_cost=0 estimated_wh=0 estimated_cost=0 kind1=0 kind2=0 kind3=0 kind4=0 kind5=0 average=0 missing=0");
+}
+
+/// A line of a page, as a person would type it.
+fn typed(label: &str, figure: &str) -> String {
+    let mut line = [b' '; 72];
+    line[..label.len()].copy_from_slice(label.as_bytes());
+    line[72 - figure.len()..].copy_from_slice(figure.as_bytes());
+    String::from_utf8(line.to_vec()).unwrap() + "\n"
+}
+
+#[track_caller]
+fn prints(l: &Ledger, m: u32, lines: &[(&str, &str)]) {
+    let page: String = lines.iter().map(|(label, figure)| typed(label, figure)).collect();
+    assert_eq!(page::page(l, m).unwrap(), page);
+}
+
+fn average(l: &Ledger, m: u32) -> String {
+    page::page(l, m).unwrap().lines().last().unwrap().strip_prefix("Average").unwrap()[51..].to_string()
+}
+
+#[test]
+fn worked_example_page() {
+    let Run::Account { ledger, .. } = run(EXAMPLE.as_bytes()) else { panic!() };
+    prints(&ledger, 0, &[
+        ("Month 2024-01", ""),
+        ("Paid 2024-01-01", "60.00"),
+        ("Paid 2024-01-06", "40.00"),
+        ("Usage 32000 Wh", "4.00"),
+        ("Kind 3", "0.00"),
+        ("Kind 4", "0.00"),
+        ("Kind 5", "0.00"),
+        ("Average", "159.38"),
+    ]);
+    prints(&ledger, 12, &[("Month 2025-01", ""), ("Usage 0 Wh", "0.00"), ("Kind 3", "0.00"), ("Kind 4", "0.00"), ("Kind 5", "0.00"), ("Average", "")]);
+    assert_eq!(page::page(&ledger, 14), Err(3));
+}
+
+#[test]
+fn page_of_a_month() {
+    // Day 0 is 2023-12-31, day 1 New Year, day 60 2024-02-29, day 61 March 1.
+    let mut l = Ledger::open(Terms { open: Date::new(2023, 12, 31), ..terms() }).unwrap();
+    ok(&mut l, 0, Event::Pay { amount: 1 });
+    for amount in [12_345, 999, 10_000_000] {
+        ok(&mut l, 1, Event::Pay { amount });
+    }
+    ok(&mut l, 31, Event::Reverse { number: 2 });
+    ok(&mut l, 31, Event::Pay { amount: 9 });
+    ok(&mut l, 31, Event::Charge { kind: 1, amount: 777 });
+    ok(&mut l, 31, Event::Charge { kind: 3, amount: 9 });
+    ok(&mut l, 31, Event::Charge { kind: 4, amount: 60 });
+    ok(&mut l, 31, Event::Charge { kind: 4, amount: 39 });
+    ok(&mut l, 32, Event::Charge { kind: 5, amount: 5 });
+    ok(&mut l, 32, Event::Read { usage: 31, wh: 32_000 });
+    ok(&mut l, 32, Event::Estimate { usage: 30, wh: 30_000 });
+    ok(&mut l, 32, Event::Estimate { usage: 0, wh: 40 });
+    ok(&mut l, 60, Event::Pay { amount: 6_000 });
+    ok(&mut l, 61, Event::Pay { amount: 6_100 });
+    prints(&l, 0, &[("Month 2023-12", ""), ("Paid 2023-12-31", "0.01"), ("Usage 40 Wh", "0.01"), ("Kind 3", "0.00"), ("Kind 4", "0.00"), ("Kind 5", "0.00"), ("Average", "25.00")]);
+    prints(&l, 1, &[
+        ("Month 2024-01", ""),
+        ("Paid 2024-01-01", "123.45"),
+        ("Paid 2024-01-01", "100000.00"),
+        ("Paid 2024-01-31", "0.09"),
+        ("Usage 62000 Wh", "7.75"),
+        ("Kind 3", "0.09"),
+        ("Kind 4", "0.99"),
+        ("Kind 5", "0.00"),
+        // (775 + 777) cents for 62 kWh.
+        ("Average", "25.03"),
+    ]);
+    prints(&l, 2, &[("Month 2024-02", ""), ("Paid 2024-02-29", "60.00"), ("Usage 0 Wh", "0.00"), ("Kind 3", "0.00"), ("Kind 4", "0.00"), ("Kind 5", "0.05"), ("Average", "")]);
+    // A reversal is no event of the payment's month, and counts there.
+    ok(&mut l, 399, Event::Reverse { number: 5 });
+    assert_eq!(page::page(&l, 2).unwrap().len(), 438);
+    // Day 399 is 2025-02-02, month 14.
+    ok(&mut l, 399, Event::Pay { amount: 100 });
+    prints(&l, 14, &[("Month 2025-02", ""), ("Paid 2025-02-02", "1.00"), ("Usage 0 Wh", "0.00"), ("Kind 3", "0.00"), ("Kind 4", "0.00"), ("Kind 5", "0.00"), ("Average", "")]);
+    for m in [15, 16, 24, 256, u32::MAX] {
+        assert_eq!(page::page(&l, m), Err(3));
+    }
+}
+
+#[test]
+fn page_average() {
+    let mut l = ledger();
+    ok(&mut l, 1, Event::Read { usage: 0, wh: 0 });
+    ok(&mut l, 1, Event::Charge { kind: 2, amount: 1 });
+    assert_eq!(average(&l, 0), " ".repeat(14));
+    ok(&mut l, 2, Event::Read { usage: 1, wh: 1 });
+    assert_eq!(average(&l, 0), "       1000.00");
+    for amount in [[10_000_000; 9].as_slice(), &[9_999_998]].concat() {
+        ok(&mut l, 2, Event::Charge { kind: 1, amount });
+    }
+    assert_eq!(average(&l, 0), "99999999000.00");
+    ok(&mut l, 2, Event::Charge { kind: 1, amount: 1 });
+    assert_eq!(average(&l, 0), " ".repeat(14));
+    // Wh that cost nothing have an average.
+    ok(&mut l, 33, Event::Read { usage: 32, wh: 39 });
+    assert_eq!(average(&l, 1), "          0.00");
+}
+
+#[test]
+fn page_in_a_buffer() {
+    let mut l = ledger();
+    for _ in 0..128 {
+        ok(&mut l, 30, Event::Pay { amount: 10 });
+    }
+    let page = page::page(&l, 0).unwrap();
+    assert_eq!((page.len(), page::page(&l, 1).unwrap().len()), (9_782, 438));
+    for (m, room, good) in [(0, 9_782, (0, 9_782)), (0, 9_781, (16, 0)), (0, 0, (16, 0)), (0, 9_799, (0, 9_782)), (14, 0, (3, 0)), (14, 9_782, (3, 0))] {
+        let mut out = vec![99; room];
+        let answer = page::put(&l, m, &mut out);
+        assert_eq!((answer.code, answer.value), good);
+        let written = answer.value as usize;
+        assert_eq!(out[..written], page.as_bytes()[..written]);
+        assert!(out[written..].iter().all(|&b| b == 99));
+    }
+}
+
+#[test]
+fn page_of_a_text() {
+    let of = |text: &str, m| page::print(&run(text.as_bytes()), m);
+    assert_eq!(of("", 0), "n=0 code=15 value=0 balance=0 plan=0\n");
+    assert_eq!(of(&TERMS.replace("50\n", "51\n"), 15), "n=0 code=1 value=0 balance=0 plan=0\n");
+    assert_eq!(of(TERMS, 14), "code=3 value=0\n");
+    let broken = format!("{TERMS}day=0\ndo=pay\namount=5\nday=0\ndo=pay\namount=05\n");
+    assert_eq!(of(&broken, 0).lines().count(), 7);
+    let argument = |args: &[&str]| page::argument(args);
+    assert_eq!([argument(&["0"]), argument(&["14"]), argument(&["4294967295"])], [Some(0), Some(14), Some(u32::MAX)]);
+    for wrong in [&[][..], &[""], &["00"], &["01"], &["+1"], &["-1"], &["4294967296"], &["1 "], &["one"], &["0", "0"]] {
+        assert_eq!(argument(wrong), None);
+    }
 }
 
 // "Either side of the line".
@@ -817,6 +950,7 @@ fn all_refused(n: &Numbers) -> bool {
     full_records().iter().all(|r| after.post(r) == Answer { code: 1, value: 0 })
         && after == *n
         && (0..17).all(|m| summary::summary(n, m) == summary::Summary { code: 1, ..Default::default() })
+        && (0..17).all(|m| page::put(n, m, &mut []) == Answer { code: 1, value: 0 })
 }
 
 #[test]
@@ -881,13 +1015,26 @@ fn damaged_numbers() {
     n.charges[1] = 1 << 60;
     n.totals.last = 1;
     assert_eq!(n.post(&charge(1, 5)).code, 0);
-    // 2^40 of kinds 1 and 2 in a month's figures; after 3.
+    // 2^40 of any kind in a month's figures, and on its page; after 3.
     n.terms = numbers().terms;
-    let code = |n: &Numbers, m| summary::summary(n, m).code;
+    let code = |n: &Numbers, m| {
+        let code = summary::summary(n, m).code;
+        assert_eq!(page::page(n, m).err(), Some(code).filter(|&c| c != 0));
+        assert_eq!(page::put(n, m, &mut []), Answer { code: if code == 0 { 16 } else { code }, value: 0 });
+        code
+    };
     assert_eq!([code(&n, 0), code(&n, 1), code(&n, 14)], [1, 0, 3]);
-    n.charges[..5].copy_from_slice(&[1 << 40, 1 << 40, u64::MAX, u64::MAX, u64::MAX]);
+    n.charges[70..].fill(u64::MAX);
+    assert_eq!(code(&n, 14), 3);
+    n.charges[..5].fill(1 << 40);
     assert_eq!(code(&n, 0), 0);
-    assert_eq!(summary::summary(&n, 0).kinds[4], u64::MAX);
+    assert_eq!(summary::summary(&n, 0).kinds, [1 << 40; 5]);
+    assert!(page::page(&n, 0).unwrap().contains("        10995116277.76\n"));
+    for kind in 0..5 {
+        let mut n = n;
+        n.charges[kind] += 1;
+        assert_eq!([code(&n, 0), code(&n, 1)], [1, 0]);
+    }
     // The last day and the count of events as they stand.
     n.totals.last = 400;
     assert_eq!(n.post(&credit).code, 2);

@@ -5,13 +5,14 @@
 
 use crate::cells::{self, Cell};
 use crate::generate;
-use crate::lent::{guarded_row, Guarded};
+use crate::lent::{guarded_page, guarded_row, Guarded, LEAST_PAGE};
 use crate::rng::Rng;
 use crate::stats::CallStats;
 use reference::calendar::Date;
 use reference::head::{self, Figures, Reading};
-use reference::ledger::Terms;
+use reference::ledger::{Answer, Terms};
 use reference::numbers::{Numbers, TermCells};
+use reference::page;
 use reference::rows::{Books, Head, Record};
 use reference::summary::{self, Summary};
 use reference::text::Reader;
@@ -25,8 +26,27 @@ pub enum Call {
     Row(Vec<Record>, usize),
     /// The figures of months 0 to 14 and of this one.
     Figures(u32),
+    /// A month's page, into a buffer of this length.
+    Page(u32, Length),
     /// Not a call: the account's numbers are changed by another hand.
     Set(Vec<(Cell, u64)>),
+}
+
+/// So many bytes; or so many more, or fewer, than the page has.
+#[derive(Clone, Copy, Debug, PartialEq, Eq)]
+pub enum Length {
+    Bytes(u32),
+    Page(i32),
+}
+
+impl Length {
+    fn bytes(self, page: &Result<String, u8>) -> usize {
+        let page = page.as_ref().map_or(LEAST_PAGE, |p| p.len());
+        match self {
+            Length::Bytes(n) => n as usize,
+            Length::Page(more) => page.saturating_add_signed(more as isize),
+        }
+    }
 }
 
 #[derive(Clone, Debug, PartialEq, Eq)]
@@ -43,7 +63,7 @@ pub struct Difference {
 
 // Making lists.
 
-const KINDS: [(&str, u64); 13] = [
+const KINDS: [(&str, u64); 14] = [
     ("steered", 42),
     ("damaged", 15),
     ("pointed", 15),
@@ -52,6 +72,7 @@ const KINDS: [(&str, u64); 13] = [
     ("payments", 7),
     ("prices", 8),
     ("terms", 7),
+    ("pages", 6),
     ("year", 4),
     ("long", 4),
     ("full", 4),
@@ -69,14 +90,26 @@ fn pointed(r: &mut Rng) -> List {
             calls.push(Call::Open(terms));
         }
         let x = r.below(400) as u32;
+        if r.percent(30) {
+            let month = generate::month(r, &terms, x);
+            calls.push(Call::Set(cells::of_page(r, &terms, month)));
+            for _ in 0..r.range(1, 3) {
+                calls.push(Call::Page(month, buffer_of_page(r)));
+            }
+            if r.percent(50) {
+                calls.push(Call::Figures(generate::far_month(r)));
+            }
+            continue;
+        }
         let (cells, record) = cells::pointed(r, &terms, x);
         calls.push(Call::Set(cells));
         calls.push(if r.percent(80) { Call::Post(record) } else { Call::Row(vec![record, near_record(r, x), record], 3) });
         if r.percent(20) {
-            calls.push(Call::Figures(far_month(r)));
+            calls.push(Call::Figures(generate::far_month(r)));
         }
     }
-    calls.push(Call::Figures(far_month(r)));
+    calls.push(Call::Figures(generate::far_month(r)));
+    calls.push(page_call(r, &terms, &[]));
     List { calls }
 }
 
@@ -95,6 +128,7 @@ pub fn list(r: &mut Rng) -> (List, &'static str) {
             "random" => generate::random(r, 1_500),
             "payments" => generate::payments(r),
             "prices" => generate::prices(r),
+            "pages" => generate::pages(r),
             "year" => generate::year(r),
             "long" => generate::guided(r, generate::WHOLE, 5_000),
             "full" => generate::full(r),
@@ -124,7 +158,7 @@ pub fn list(r: &mut Rng) -> (List, &'static str) {
         with_strange.push(record);
     }
     let mut calls = vec![Call::Open(terms)];
-    calls.extend(cut(r, with_strange));
+    calls.extend(cut(r, &terms, with_strange));
     // Another account in its place.
     if r.percent(3) {
         calls.insert(r.index(calls.len() + 1), Call::Open(generate::good_terms(r)));
@@ -281,7 +315,7 @@ fn arbitrary(r: &mut Rng) -> (Terms, Vec<Record>) {
 }
 
 /// Into calls: single posts, rows of all lengths, and calls that change nothing.
-fn cut(r: &mut Rng, records: Vec<Record>) -> Vec<Call> {
+fn cut(r: &mut Rng, terms: &Terms, records: Vec<Record>) -> Vec<Call> {
     let most_row = r.pick(&[0, 1, 2, 5, 5, 20, 20, 100, 300, 600, 5_000]);
     let single = r.pick(&[0, 10, 50, 90]);
     let idle = r.pick(&[0, 3, 15, 40]);
@@ -289,7 +323,7 @@ fn cut(r: &mut Rng, records: Vec<Record>) -> Vec<Call> {
     let mut rest = &records[..];
     while !rest.is_empty() {
         while r.percent(idle) {
-            calls.push(idle_call(r, rest));
+            calls.push(idle_call(r, terms, rest));
         }
         if most_row == 0 || r.percent(single) {
             calls.push(Call::Post(rest[0]));
@@ -302,10 +336,32 @@ fn cut(r: &mut Rng, records: Vec<Record>) -> Vec<Call> {
         }
     }
     if r.percent(50) {
-        calls.push(idle_call(r, &records));
+        calls.push(idle_call(r, terms, &records));
     }
-    calls.push(Call::Figures(far_month(r)));
+    calls.push(Call::Figures(generate::far_month(r)));
+    for _ in 0..r.range(1, 3) {
+        calls.push(page_call(r, terms, &records));
+    }
     calls
+}
+
+/// The page of a month, mostly one that holds a record.
+fn page_call(r: &mut Rng, terms: &Terms, records: &[Record]) -> Call {
+    let record = records.get(r.index(records.len().max(1))).copied().unwrap_or_default();
+    let day = if matches!(record.sort, 5 | 6) { record.usage } else { record.day };
+    Call::Page(generate::month(r, terms, day), buffer_of_page(r))
+}
+
+fn buffer_of_page(r: &mut Rng) -> Length {
+    match r.below(10) {
+        0..=2 => Length::Page(0),
+        3 | 4 => Length::Page(-1),
+        5 => Length::Page(r.pick(&[1, 1, 2, 7, 8, 73, 255, 4_096])),
+        6 => Length::Page(r.pick(&[-2, -72, -73, -74, -437, -438])),
+        7 => Length::Bytes(r.pick(&[0, 0, 1, 72, 73, 365, 437, 438, 439])),
+        8 => Length::Bytes(r.below(600) as u32),
+        _ => Length::Bytes(r.below(12_000) as u32),
+    }
 }
 
 fn longer(r: &mut Rng) -> usize {
@@ -317,14 +373,11 @@ fn longer(r: &mut Rng) -> usize {
     }
 }
 
-fn far_month(r: &mut Rng) -> u32 {
-    r.pick(&[15, 16, 24, 127, 128, 255, 256, 257, 269, 65_536, 65_537, 1 << 31, u32::MAX - 1, u32::MAX])
-}
-
-/// A call that changes nothing: refused terms, an empty row, a short buffer, the figures.
-fn idle_call(r: &mut Rng, rest: &[Record]) -> Call {
-    match r.below(9) {
-        0 => Call::Figures(far_month(r)),
+/// A call that changes nothing: refused terms, an empty row, a short buffer, the figures, a page.
+fn idle_call(r: &mut Rng, terms: &Terms, rest: &[Record]) -> Call {
+    match r.below(11) {
+        9 | 10 => page_call(r, terms, &rest[..rest.len().min(20)]),
+        0 => Call::Figures(generate::far_month(r)),
         1 | 2 => Call::Row(Vec::new(), longer(r)),
         3 => Call::Open(loop {
             let terms = terms_of_any_size(r);
@@ -483,6 +536,31 @@ pub fn run(list: &List, account: &mut Guarded<Numbers>, mut stats: Option<&mut C
                     }
                 }
             }
+            Call::Page(month, length) => {
+                let page = page::page(&good, *month);
+                let buffer = length.bytes(&page);
+                let (mut bytes, mut by_books) = (vec![fill; buffer], vec![fill; buffer]);
+                let answer = good.page(*month, &mut bytes);
+                if !damaged && (books.page(*month, &mut by_books), &by_books) != (answer, &bytes) {
+                    return differs(i, format!("the reference differs from itself: numbers {answer:?}"));
+                }
+                let Answer { code, value } = answer;
+                match guarded_page(account, *month, buffer, fill) {
+                    Err(what) => return differs(i, what),
+                    Ok((got, _)) if (got.code, got.value) != (code as u64, value as u64) => {
+                        return differs(i, format!("month {month}, {buffer} bytes: reference {answer:?}, tested {got:?}"));
+                    }
+                    Ok((_, got)) => {
+                        if let Some(k) = (0..buffer).find(|&k| bytes[k] != got[k]) {
+                            let part = if (k as i64) < value { "of the page" } else { "that must stay" };
+                            return differs(i, format!("month {month}, byte {k} of {buffer}, {part}: reference {}, tested {}", bytes[k], got[k]));
+                        }
+                    }
+                }
+                if let Some(s) = stats.as_deref_mut() {
+                    s.note_page(&good, *month, &page, buffer, damaged);
+                }
+            }
             Call::Set(cells) => {
                 for &(cell, value) in cells {
                     cell.set(&mut account.held, value);
@@ -544,6 +622,7 @@ pub fn write(list: &List) -> String {
     let mut out = String::from("# open: year month day price connect cutoff share\n");
     out.push_str("# post, and each event of a row: sort day amount number kind usage wh from to\n");
     out.push_str("# row: its buffer's bytes, its events; figures: one more month; set: how many numbers of the account, their values\n");
+    out.push_str("# page: its month, its buffer's bytes; with a sign: how many more than the page has\n");
     for call in &list.calls {
         match call {
             Call::Open(Terms { open: Date { year, month, day }, price, connect, cutoff, share }) => {
@@ -555,6 +634,8 @@ pub fn write(list: &List) -> String {
                 row.iter().for_each(|e| write_record(&mut out, " ", e));
             }
             Call::Figures(far) => writeln!(out, "figures {far}").unwrap(),
+            Call::Page(month, Length::Bytes(n)) => writeln!(out, "page {month} {n}").unwrap(),
+            Call::Page(month, Length::Page(more)) => writeln!(out, "page {month} {more:+}").unwrap(),
             Call::Set(cells) => {
                 writeln!(out, "set {}", cells.len()).unwrap();
                 cells.iter().for_each(|(cell, value)| writeln!(out, "  {} {value}", cell.name()).unwrap());
@@ -581,6 +662,8 @@ pub fn read(text: &str) -> Option<List> {
             }
             ["post", ..] => Call::Post(record(&words[1..])?),
             ["figures", far] => Call::Figures(far.parse().ok()?),
+            ["page", month, n] if n.starts_with(['+', '-']) => Call::Page(month.parse().ok()?, Length::Page(n.parse().ok()?)),
+            ["page", month, n] => Call::Page(month.parse().ok()?, Length::Bytes(n.parse().ok()?)),
             ["set", count] => {
                 let cell = |words: Vec<&str>| match words[..] {
                     [group, index, field, value] => Some((Cell::read(group, index, field)?, value.parse().ok()?)),
@@ -683,7 +766,7 @@ pub fn shrink(list: &List, mut tries: usize, mut fails: impl FnMut(&List) -> boo
             let count = match &list.calls[i] {
                 Call::Post(_) => 1,
                 Call::Row(row, _) => row.len(),
-                Call::Open(_) | Call::Figures(_) | Call::Set(_) => 0,
+                Call::Open(_) | Call::Figures(_) | Call::Page(..) | Call::Set(_) => 0,
             };
             for k in 0..count.min(40) {
                 for field in 1..9 {
@@ -692,7 +775,7 @@ pub fn shrink(list: &List, mut tries: usize, mut fails: impl FnMut(&List) -> boo
                         let e = match &mut candidate.calls[i] {
                             Call::Post(e) => e,
                             Call::Row(row, _) => &mut row[k],
-                            Call::Open(_) | Call::Figures(_) | Call::Set(_) => unreachable!(),
+                            Call::Open(_) | Call::Figures(_) | Call::Page(..) | Call::Set(_) => unreachable!(),
                         };
                         let at = [
                             &mut e.sort, &mut e.day, &mut e.amount, &mut e.number, &mut e.kind, &mut e.usage, &mut e.wh,

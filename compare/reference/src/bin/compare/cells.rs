@@ -296,6 +296,61 @@ pub fn pointed(r: &mut Rng, terms: &Terms, x: u32) -> (Vec<(Cell, u64)>, Record)
     (cells, Record::of(x, event))
 }
 
+/// Wrong numbers in what the page of a month shows: payments, usage days, sums of charges.
+pub fn of_page(r: &mut Rng, terms: &Terms, month: u32) -> Vec<(Cell, u64)> {
+    let days = generate::days_of(terms, month);
+    let mut cells: Vec<(Cell, u64)> = Vec::new();
+    let mut put = |group: &str, index: usize, field: &str, value: u64| {
+        cells.push((Cell::read(group, &index.to_string(), field).expect("a cell"), value));
+    };
+    let most = r.percent(8);
+    let any = |r: &mut Rng| if most { u32::MAX } else { r.pick(&[0, 1, 9, 10, 99, 100, 12_345, 1 << 31, u32::MAX]) } as u64;
+    if r.percent(60) {
+        let count = r.pick(&[0, 1, 2, 3, 5, 127, 128]);
+        let whole = r.percent(30);
+        let some_day = |r: &mut Rng| match r.below(8) {
+            0 => r.pick(&[0, 399, 400, 401, 65_536, u32::MAX]),
+            1 => r.below(400) as u32,
+            _ => days.get(r.index(days.len().max(1))).copied().unwrap_or(0),
+        };
+        put("counts", 0, "count", count);
+        for index in 0..if whole { 128 } else { 4 } {
+            put("payments", index, "day", if whole && !days.is_empty() { r.pick(&days) } else { some_day(r) } as u64);
+            put("payments", index, "amount", any(r));
+            put("payments", index, "reversed", if whole { 0 } else { r.pick(&[0, 0, 1, 2, 255, 256, 257, u32::MAX as u64]) });
+        }
+    }
+    if month < 15 {
+        for kind in 0..5 {
+            if r.percent(60) {
+                let sum = match r.below(12) {
+                    0 => r.pick(&[(1 << 40) + 1, TOTAL, 1 << 63, u64::MAX]),
+                    1 => r.pick(&[(1 << 40) - 1, 1 << 40, 1 << 40, (1 << 40) + 1]),
+                    2 => 99_999_999,
+                    _ => any(r),
+                };
+                put("charges", month as usize * 5 + kind, "sum", sum);
+            }
+        }
+    }
+    let (share, no_energy) = if most { (100, false) } else { (r.pick(&[0, 5, 30, 100]), r.percent(30)) };
+    for &day in &days {
+        if r.percent(share) {
+            put("days", day as usize, "state", if most { 2 } else { r.pick(&[0, 1, 1, 2, 2, 3, 257]) });
+            put("days", day as usize, "wh", if no_energy { 0 } else { any(r) });
+            put("days", day as usize, "cost", any(r));
+        } else if r.percent(70) {
+            put("days", day as usize, "state", 0);
+        }
+    }
+    for name in ["credit", "debit", "plan", "standing"] {
+        if r.percent(80) {
+            put("totals", 0, name, r.pick(&[0, 5_000, TOTAL]));
+        }
+    }
+    cells
+}
+
 /// Cells of an account with wrong numbers: a few near what the coming records touch, or most of them.
 pub fn damage(r: &mut Rng, coming: &[Record]) -> Vec<(Cell, u64)> {
     let put = |r: &mut Rng, cell| (cell, wrong(r, cell));

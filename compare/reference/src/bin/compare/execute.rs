@@ -1,5 +1,6 @@
 //! Running a program once: bytes in, bytes out.
 
+use std::ffi::OsString;
 use std::fs::File;
 use std::io::{self, Read, Write};
 use std::os::unix::process::ExitStatusExt;
@@ -47,7 +48,7 @@ impl Runner {
         Ok(Runner { scratch })
     }
 
-    pub fn run(&self, program: &Path, text: &[u8], feed: Feed) -> io::Result<Output> {
+    pub fn run(&self, program: &Path, args: &[OsString], text: &[u8], feed: Feed) -> io::Result<Output> {
         let stdin = if feed == Feed::File {
             std::fs::write(&self.scratch, text)?;
             Stdio::from(File::open(&self.scratch)?)
@@ -56,7 +57,7 @@ impl Runner {
         };
         let started = Instant::now();
         let mut child =
-            Command::new(program).stdin(stdin).stdout(Stdio::piped()).stderr(Stdio::null()).spawn()?;
+            Command::new(program).args(args).stdin(stdin).stdout(Stdio::piped()).stderr(Stdio::null()).spawn()?;
 
         let stdout = child.stdout.take().unwrap();
         let (send, receive) = mpsc::channel();

@@ -3,17 +3,20 @@
 use crate::damage;
 use crate::rng::Rng;
 use reference::calendar::{days_in_month, Date};
+use std::ffi::OsString;
+use std::os::unix::ffi::OsStringExt;
 use reference::ledger::{cost_at, Book, Event, Ledger, Terms, Usage, LAST_DAY, MOST_AMOUNT, MOST_EVENTS, MOST_PRICE, MOST_PRICE_DAYS, MOST_WH};
-use reference::text::{write_event, write_terms, MOST_BYTES};
+use reference::text::{write_event, write_terms, Run, MOST_BYTES};
 use Event::*;
 
-const KINDS: [(&str, u64); 14] = [
+const KINDS: [(&str, u64); 15] = [
     ("guided", 34),
     ("random", 10),
     ("damaged", 30),
     ("terms", 8),
     ("payments", 4),
     ("prices", 6),
+    ("pages", 8),
     ("year", 3),
     ("long", 3),
     ("full", 2),
@@ -40,6 +43,7 @@ pub fn text(r: &mut Rng) -> (Vec<u8>, &'static str) {
         "terms" => terms_text(r),
         "payments" => payments(r),
         "prices" => prices(r),
+        "pages" => pages(r),
         "year" => year(r),
         "long" => guided(r, MOST_BYTES, 5_000),
         "full" => full(r),
@@ -527,6 +531,24 @@ impl<'a> Guide<'a> {
         }
     }
 
+    /// A usage day of few Wh, and charges of kinds 1 and 2 such that its month has an average of 14 characters or 15, or nearly.
+    fn wide_average(&mut self, usage: u32) {
+        let wh = self.r.pick(&[1, 1, 1, 1, 2, 3]);
+        let read = self.r.percent(50);
+        self.now(if read { Read { usage, wh } } else { Estimate { usage, wh } });
+        let tax = self.r.pick(&[0, 0, 0, 1, 9_999_999]);
+        let off = self.r.pick(&[-100_000_000, -2, -1, -1, -1, 0, 0, 0, 1]);
+        let mut charges = wh as i64 * 100_000_000 - self.l.cost(usage, wh) + off - tax;
+        if tax > 0 {
+            self.now(Charge { kind: 2, amount: tax as u32 });
+        }
+        while charges > 0 && !self.stopped {
+            let amount = charges.min(MOST_AMOUNT as i64) as u32;
+            self.now(Charge { kind: 1, amount });
+            charges -= amount as i64;
+        }
+    }
+
     fn marks(&mut self) {
         let x = self.x;
         let from = x + self.r.pick(&[0, 0, 1, 2, 5]);
@@ -730,6 +752,142 @@ pub fn prices(r: &mut Rng) -> Vec<u8> {
             _ => {
                 g.price();
             }
+        }
+    }
+    g.out
+}
+
+// Months.
+
+/// A month that no account has, counted from its opening month.
+pub fn far_month(r: &mut Rng) -> u32 {
+    r.pick(&[15, 16, 24, 127, 128, 255, 256, 257, 269, 65_536, 65_537, 1 << 31, u32::MAX - 1, u32::MAX])
+}
+
+/// Mostly the month of a day, else any.
+pub fn month(r: &mut Rng, terms: &Terms, day: u32) -> u32 {
+    match r.below(20) {
+        0..=12 if terms.within_limits() && day <= LAST_DAY => terms.month_of(day),
+        13 | 14 => r.pick(&[12, 13, 14, 14, 15]),
+        15 => far_month(r),
+        _ => r.range(0, 15) as u32,
+    }
+}
+
+/// Mostly a month that holds an event of the account, or its usage day.
+pub fn month_of(r: &mut Rng, run: &Run) -> u32 {
+    let Run::Account { ledger, .. } = run else { return r.range(0, 15) as u32 };
+    let entry = ledger.list.get(r.index(ledger.list.len().max(1)));
+    let day = match entry.map(|e| (e.day, e.event)) {
+        Some((_, Estimate { usage, .. } | Read { usage, .. })) if r.percent(80) => usage,
+        Some((day, _)) => day,
+        None => 0,
+    };
+    month(r, &ledger.terms, day)
+}
+
+/// Arguments that name no month.
+pub fn bad_arguments(r: &mut Rng) -> Vec<OsString> {
+    const WRONG: [&[u8]; 26] = [
+        b"", b"00", b"01", b"014", b"+1", b"-1", b"-0", b" 1", b"1 ", b"1\n", b"\n", b"4294967296", b"4294967297", b"42949672950",
+        b"18446744073709551616", b"00000000000", b"0x1", b"1e1", b"1.0", b"one", b"2024-01", b"--help", b"month=1", b"\xff", b"1\xff",
+        "\u{661}".as_bytes(),
+    ];
+    const TWO: [[&[u8]; 2]; 6] = [[b"0", b"0"], [b"1", b""], [b"", b"1"], [b"--", b"1"], [b"0", b"01"], [b"x", b"1"]];
+    let args: &[&[u8]] = match r.below(6) {
+        0 => &[],
+        1 => &r.pick(&TWO),
+        2 => &[b"0", b"1", b"2"],
+        _ => &[r.pick(&WRONG)],
+    };
+    args.iter().map(|a| OsString::from_vec(a.to_vec())).collect()
+}
+
+/// The days of a month, counted from the opening month.
+pub fn days_of(terms: &Terms, month: u32) -> Vec<u32> {
+    let (mut date, mut days) = (terms.open, Vec::new());
+    for day in 0..=LAST_DAY {
+        if date.months_after(terms.open) == month {
+            days.push(day);
+        }
+        date = date.next();
+    }
+    days
+}
+
+/// A month and the days beside it, for its page: payments, none to all of an account's, some of them reversed; small and large charges of
+/// every kind; usage of both sorts, one of them, or none; an average near 14 characters.
+pub fn pages(r: &mut Rng) -> Vec<u8> {
+    let terms = good_terms(r);
+    let mut g = Guide::new(r, terms, LAST_DAY, 14_000);
+    let month = if g.r.percent(50) { g.r.range(0, 14) as u32 } else { g.r.pick(&[0, 0, 1, 2, 11, 12, 13, 14, 14, 14]) };
+    let mut days = days_of(&terms, month);
+    if days.is_empty() {
+        days = days_of(&terms, 13);
+    }
+    let (first, last) = (days[0], days[days.len() - 1]);
+    let end = (last + 3).min(LAST_DAY);
+    let some_day = |r: &mut Rng| match r.below(6) {
+        0 => first,
+        1 => last,
+        2 => (last + 1).min(LAST_DAY),
+        3 => first.saturating_sub(1),
+        _ => r.range(first as i64, last as i64) as u32,
+    };
+    // The days of payments: all on one, or on any.
+    let payments = g.r.pick(&[0, 0, 1, 1, 2, 3, 5, 12, 40, 127, 128, 128]);
+    let one_day = if g.r.percent(40) { Some(some_day(g.r)) } else { None };
+    let mut paid: Vec<u32> = (0..payments).map(|_| one_day.unwrap_or_else(|| some_day(g.r))).collect();
+    if g.r.percent(40) {
+        // All in the month.
+        paid.iter_mut().for_each(|day| *day = (*day).clamp(first, last));
+    }
+    let reversals = g.r.pick(&[0, 0, 5, 30, 100]);
+    let charges = g.r.pick(&[0, 10, 40]);
+    let small = g.r.percent(60);
+    let wide = g.r.percent(30);
+    // Of a hundred days how many are estimated, and read.
+    let (estimated, read) = if wide { (0, 0) } else { g.r.pick(&[(0, 0), (0, 0), (60, 0), (0, 60), (50, 40), (90, 90), (3, 3)]) };
+    let no_energy = g.r.percent(15);
+    let usage = if wide { first.min(LAST_DAY - 1) } else { last };
+    for x in first.saturating_sub(1)..=end {
+        g.x = x;
+        for _ in 0..paid.iter().filter(|&&day| day == x).count() {
+            let amount = g.r.pick(&[1, 9, 10, 99, 100, 101, 999, 1_005, 12_345, 999_999, MOST_AMOUNT - 1, MOST_AMOUNT]);
+            let number = g.l.payments().count() as u32;
+            g.now(Pay { amount });
+            if g.r.percent(reversals / 2) {
+                g.now(Reverse { number });
+            }
+        }
+        for _ in 0..2 {
+            if g.r.percent(charges) {
+                let kind = if wide { g.r.range(3, 5) } else { g.r.range(1, 5) } as u32;
+                let amount = if small { g.r.pick(&[1, 5, 9, 10, 50, 90, 99, 100, 101, 1_000]) } else { g.r.range(1, MOST_AMOUNT as i64) as u32 };
+                g.now(Charge { kind, amount });
+            }
+        }
+        if x > 0 {
+            for (share, is_read) in [(estimated, false), (read, true)] {
+                if g.r.percent(share) {
+                    let usage = x - 1 - g.r.below(3).min(x as u64 - 1) as u32;
+                    let wh = if no_energy { 0 } else { g.wh(usage) };
+                    g.now(if is_read { Read { usage, wh } } else { Estimate { usage, wh } });
+                }
+            }
+        }
+        if wide && x == usage + 1 {
+            g.wide_average(usage);
+        }
+        if g.r.percent(3) {
+            g.strange();
+            g.x = x;
+        }
+    }
+    g.x = g.l.last_day().max(end);
+    for number in 0..g.l.payments().count() as u32 {
+        if g.r.percent(reversals) {
+            g.now(Reverse { number });
         }
     }
     g.out

@@ -28,6 +28,9 @@ impl<T> Guarded<T> {
     }
 }
 
+/// Bytes of a page without a payment.
+pub const LEAST_PAGE: usize = 6 * 73;
+
 /// The row's answer and the lent buffer afterwards, or what else was written.
 pub fn guarded_row(account: &mut Account, events: &[Event], buffer: usize, fill: u8) -> Result<(u8, Vec<u8>), String> {
     // The row between events that must not be posted, the buffer between guard bytes.
@@ -43,6 +46,20 @@ pub fn guarded_row(account: &mut Account, events: &[Event], buffer: usize, fill:
         return Err("bytes outside the lent buffer were written".into());
     }
     Ok((answer, codes[GUARD..GUARD + buffer].to_vec()))
+}
+
+/// The answer for a month's page and the lent buffer afterwards, or what else was written.
+pub fn guarded_page(account: &Guarded<Account>, month: u32, buffer: usize, fill: u8) -> Result<(Answer, Vec<u8>), String> {
+    let before = account.held;
+    let mut lent = vec![fill; GUARD + buffer + GUARD];
+    let answer = page(&account.held, month, &mut lent[GUARD..GUARD + buffer]);
+    if lent[..GUARD].iter().chain(&lent[GUARD + buffer..]).any(|&b| b != fill) {
+        return Err("bytes outside the lent buffer were written".into());
+    }
+    if account.held != before || !account.guards_stand() {
+        return Err("the account was written".into());
+    }
+    Ok((answer, lent[GUARD..GUARD + buffer].to_vec()))
 }
 
 /// What stands behind a text in memory: read by mistake, it would be an event.
@@ -124,6 +141,51 @@ pub fn by_events(text: &[u8]) -> Result<Vec<u8>, String> {
         return Err("bytes around the account were written".into());
     }
     Ok(out.into_bytes())
+}
+
+/// What `page` prints for a text, by reading and posting it event by event and asking for the page in buffers of several lengths, which hold
+/// `fill`; or where these answers do not agree.
+pub fn page_after(text: &[u8], month: u32, fill: u8) -> Result<Vec<u8>, String> {
+    let (mut reader, mut terms) = (Reader::default(), NO_TERMS);
+    let mut account = Guarded::new(Account::filled(fill));
+    let code = match read_terms(text, &mut reader, &mut terms) {
+        0 => open(&mut account.held, &terms),
+        code => code,
+    };
+    if code != 0 {
+        return Ok(format!("n=0 code={code} value=0 balance=0 plan=0\n").into_bytes());
+    }
+    let mut event = NO_EVENT;
+    while read_event(text, &mut reader, &mut event) == 0 {
+        post(&mut account.held, &event);
+    }
+    let (whole, bytes) = guarded_page(&account, month, PAGE_ROOM, fill)?;
+    let length = if whole.code == 0 { whole.value as usize } else { 0 };
+    if length > PAGE_ROOM || bytes[length..].iter().any(|&b| b != fill) {
+        return Err(format!("{whole:?} into {PAGE_ROOM} bytes: one past the page was written"));
+    }
+    let least = length.max(LEAST_PAGE);
+    for buffer in [least, least - 1, least - 1 - fill as usize, least + 1, least + fill as usize, 1, 0] {
+        let good = match whole.code {
+            0 if buffer < length => Answer { code: 16, value: 0 },
+            _ => whole,
+        };
+        let put = if good.code == 0 { length } else { 0 };
+        let (got, got_bytes) = guarded_page(&account, month, buffer, fill)?;
+        if got != good {
+            return Err(format!("{whole:?} into {PAGE_ROOM} bytes, but {got:?} into {buffer}"));
+        }
+        if got_bytes[..put] != bytes[..put] {
+            return Err(format!("{got:?} into {buffer} bytes: another page than into {PAGE_ROOM}"));
+        }
+        if got_bytes[put..].iter().any(|&b| b != fill) {
+            return Err(format!("{got:?} into {buffer} bytes: one that must stay was written"));
+        }
+    }
+    if whole.code != 0 {
+        return Ok(format!("code={} value={}\n", whole.code, whole.value).into_bytes());
+    }
+    Ok(bytes[..length].to_vec())
 }
 
 // A text, printed whole.

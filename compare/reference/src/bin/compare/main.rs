@@ -14,22 +14,26 @@ mod stats;
 
 use calls::{Difference, List};
 use execute::{End, Feed, Output, Runner};
-use lent::{by_events, Guarded, Printer, Room};
+use lent::{by_events, page_after, Guarded, Printer, Room};
 use reference::head;
+use reference::text::Run;
+use reference::{page, summary, text};
 use rng::Rng;
 use std::cell::RefCell;
 use std::collections::BTreeMap;
+use std::ffi::OsString;
 use std::fs::File;
 use std::io::Write;
+use std::os::unix::ffi::OsStrExt;
 use std::os::unix::fs::FileExt;
 use std::path::{Path, PathBuf};
 use std::process::exit;
 use std::time::{Duration, Instant};
 
-const USAGE: &str = "usage: compare [--prepay PROGRAM] [--summary PROGRAM] [--texts N] [--lists N] [--seed S] [--start I]
+const USAGE: &str = "usage: compare [--prepay PROGRAM] [--summary PROGRAM] [--page PROGRAM] [--texts N] [--lists N] [--seed S] [--start I]
                [--programs PERCENT] [--places N] [--failures FOLDER] [--most-failures N] [--shrink-seconds N]
                [--progress FILE] [--text FILE] [--calls FILE] [--show I] [--show-list I]
-  --prepay, --summary  the programs under test; the references lie beside this program. The library is linked in
+  --prepay, --summary, --page  the programs under test; the references lie beside this program. The library is linked in
   --texts, --lists     how many texts (default 20000) and lists of calls (default 20000)
   --seed, --start      from which seed (default 1), from which index on (default 0): text I and list I are the same
                        in every run of a seed
@@ -57,6 +61,7 @@ day=6\ndo=read\nusage=5\nwh=30000\nday=6\ndo=read\nusage=4\nwh=32000\nday=7\ndo=
 struct Options {
     prepay: Option<PathBuf>,
     summary: Option<PathBuf>,
+    page: Option<PathBuf>,
     texts: u64,
     lists: u64,
     seed: u64,
@@ -77,6 +82,7 @@ fn options() -> Options {
     let mut o = Options {
         prepay: None,
         summary: None,
+        page: None,
         texts: 20_000,
         lists: 20_000,
         seed: 1,
@@ -103,6 +109,7 @@ fn options() -> Options {
         match key.as_str() {
             "--prepay" => o.prepay = Some(PathBuf::from(&value)),
             "--summary" => o.summary = Some(PathBuf::from(&value)),
+            "--page" => o.page = Some(PathBuf::from(&value)),
             "--texts" => o.texts = number(),
             "--lists" => o.lists = number(),
             "--programs" => o.programs = number(),
@@ -129,18 +136,66 @@ enum Side {
     Library(Printer),
     /// Read and posted event by event.
     Events,
+    /// The same, then a month's page.
+    Page,
 }
 
 /// A reference and what must print the same.
 struct Pair {
     name: &'static str,
     side: Side,
-    print: fn(&reference::text::Run) -> String,
+    print: Print,
+}
+
+/// What a run prints, of a month or not.
+#[derive(Clone, Copy)]
+enum Print {
+    All(fn(&Run) -> String),
+    Month(fn(&Run, u32) -> String),
+}
+
+/// How a text is given: how it comes to a program; a program's arguments; the byte that buffers lent for a page hold.
+#[derive(Clone, Debug)]
+struct Way {
+    feed: Feed,
+    args: Vec<OsString>,
+    fill: u8,
+}
+
+impl Way {
+    fn of_month(feed: Feed, month: u32, fill: u8) -> Way {
+        Way { feed, args: vec![month.to_string().into()], fill }
+    }
+
+    /// The month that the arguments name.
+    fn month(&self) -> Option<u32> {
+        page::argument(&self.args.iter().map(|a| a.as_bytes()).collect::<Vec<_>>())
+    }
 }
 
 impl Pair {
     fn is_program(&self) -> bool {
         matches!(self.side, Side::Program { .. })
+    }
+
+    fn is_of_month(&self) -> bool {
+        matches!(self.print, Print::Month(_))
+    }
+
+    /// What it prints, and the status with which a program for it ends.
+    fn prints(&self, run: &Run, way: &Way) -> Output {
+        let (printed, status) = match self.print {
+            Print::All(print) => (print(run), 0),
+            Print::Month(print) => way.month().map_or((String::new(), 2), |m| (print(run, m), 0)),
+        };
+        Output { bytes: printed.into_bytes(), end: End::Exit(status) }
+    }
+
+    /// Of the exit codes of `prepay` and `summary` the papers say nothing: they are counted, not compared. A program that is killed or
+    /// does not end has failed.
+    fn differs(&self, good: &Output, got: &Output) -> bool {
+        let ended = if self.is_of_month() { got.end == good.end } else { matches!(got.end, End::Exit(_)) };
+        got.bytes != good.bytes || !ended
     }
 }
 
@@ -151,41 +206,34 @@ struct Bench {
 }
 
 impl Bench {
-    fn program(&self, program: &Path, text: &[u8], feed: Feed) -> Output {
-        self.runner.run(program, text, feed).unwrap_or_else(|e| {
+    fn program(&self, program: &Path, text: &[u8], way: &Way) -> Output {
+        self.runner.run(program, &way.args, text, way.feed).unwrap_or_else(|e| {
             eprintln!("{}: {e}", program.display());
             exit(2)
         })
     }
 
     /// What the reference makes of a text.
-    fn good(&self, pair: &Pair, text: &[u8], feed: Feed) -> Output {
+    fn good(&self, pair: &Pair, text: &[u8], way: &Way) -> Output {
         match &pair.side {
-            Side::Program { reference, .. } => self.program(reference, text, feed),
-            Side::Library(_) | Side::Events => {
-                Output { bytes: (pair.print)(&reference::text::run(text)).into_bytes(), end: End::Exit(0) }
-            }
+            Side::Program { reference, .. } => self.program(reference, text, way),
+            Side::Library(_) | Side::Events | Side::Page => pair.prints(&text::run(text), way),
         }
     }
 
     /// What the side under test makes of it.
-    fn tested(&self, pair: &Pair, text: &[u8], feed: Feed) -> Output {
+    fn tested(&self, pair: &Pair, text: &[u8], way: &Way) -> Output {
         let printed = match &pair.side {
-            Side::Program { tested, .. } => return self.program(tested, text, feed),
+            Side::Program { tested, .. } => return self.program(tested, text, way),
             Side::Library(printer) => self.room.borrow_mut().print(*printer, text, text.len() % 130),
             Side::Events => by_events(text),
+            Side::Page => page_after(text, way.month().expect("a month"), way.fill),
         };
         match printed {
             Ok(bytes) => Output { bytes, end: End::Exit(0) },
             Err(what) => Output { bytes: Vec::new(), end: End::Wrong(what) },
         }
     }
-}
-
-/// The papers say nothing of the exit code: it is counted, not compared. A
-/// program that is killed or does not end has failed.
-fn differs(good: &[u8], got: &Output) -> bool {
-    got.bytes != good || !matches!(got.end, End::Exit(_))
 }
 
 /// Text with everything but plain characters and line feeds escaped.
@@ -237,13 +285,13 @@ fn save(o: &Options, name: &str, files: &[(&str, &[u8])]) {
     }
 }
 
-fn report(o: &Options, bench: &Bench, pair: &Pair, name: &str, text: &[u8], feed: Feed) {
-    let (good, got) = (bench.good(pair, text, feed), bench.tested(pair, text, feed));
-    if !differs(&good.bytes, &got) {
+fn report(o: &Options, bench: &Bench, pair: &Pair, name: &str, text: &[u8], way: &Way) {
+    let (good, got) = (bench.good(pair, text, way), bench.tested(pair, text, way));
+    if !pair.differs(&good, &got) {
         println!("  (did not come up again)");
         return;
     }
-    println!("  {} bytes, fed by {feed:?}, what was tested ended with {:?}", text.len(), got.end);
+    println!("  {} bytes, {way:?}, what was tested ended with {:?}", text.len(), got.end);
     println!("    {}", first_different_line(&good.bytes, &got.bytes));
     let started = Instant::now();
     let small = shrink::shrink(text, 20_000, |t| {
@@ -251,10 +299,9 @@ fn report(o: &Options, bench: &Bench, pair: &Pair, name: &str, text: &[u8], feed
         if started.elapsed() > Duration::from_secs(o.shrink_seconds) {
             return false;
         }
-        let good = (pair.print)(&reference::text::run(t));
-        differs(good.as_bytes(), &bench.tested(pair, t, feed))
+        pair.differs(&pair.prints(&text::run(t), way), &bench.tested(pair, t, way))
     });
-    let (good, got) = (bench.good(pair, &small, feed), bench.tested(pair, &small, feed));
+    let (good, got) = (bench.good(pair, &small, way), bench.tested(pair, &small, way));
     println!("  shrunk to {} bytes, ended with {:?}:", small.len(), got.end);
     print!("{}", visible(&small, 2_000));
     println!("  reference:");
@@ -312,16 +359,20 @@ fn main() {
     }
     let here = std::env::current_exe().unwrap().parent().unwrap().to_path_buf();
     let mut pairs = vec![
-        Pair { name: "prepay_transcript", side: Side::Library(Printer::Transcript), print: reference::text::print },
-        Pair { name: "prepay_statement", side: Side::Library(Printer::Statement), print: reference::summary::print },
-        Pair { name: "prepay_read_event", side: Side::Events, print: reference::text::print },
+        Pair { name: "prepay_transcript", side: Side::Library(Printer::Transcript), print: Print::All(text::print) },
+        Pair { name: "prepay_statement", side: Side::Library(Printer::Statement), print: Print::All(summary::print) },
+        Pair { name: "prepay_read_event", side: Side::Events, print: Print::All(text::print) },
+        Pair { name: "prepay_page", side: Side::Page, print: Print::Month(page::print) },
     ];
     let program = |name: &str, tested: &PathBuf| Side::Program { reference: here.join(name), tested: tested.clone() };
     if let Some(tested) = &o.prepay {
-        pairs.push(Pair { name: "prepay", side: program("prepay_ref", tested), print: reference::text::print });
+        pairs.push(Pair { name: "prepay", side: program("prepay_ref", tested), print: Print::All(text::print) });
     }
     if let Some(tested) = &o.summary {
-        pairs.push(Pair { name: "summary", side: program("summary_ref", tested), print: reference::summary::print });
+        pairs.push(Pair { name: "summary", side: program("summary_ref", tested), print: Print::All(summary::print) });
+    }
+    if let Some(tested) = &o.page {
+        pairs.push(Pair { name: "page", side: program("page_ref", tested), print: Print::Month(page::print) });
     }
     let bench = Bench { runner: Runner::new().expect("scratch file"), room: RefCell::new(Room::new()) };
     for p in &pairs {
@@ -329,6 +380,7 @@ fn main() {
             Side::Program { reference, tested } => println!("{}: {} against {}", p.name, tested.display(), reference.display()),
             Side::Library(_) => println!("{}: the library's call against the reference", p.name),
             Side::Events => println!("{}: each call, and the text posted event by event, against the reference", p.name),
+            Side::Page => println!("{}: a month's page of the text posted event by event, against the reference", p.name),
         }
     }
 
@@ -341,13 +393,20 @@ fn main() {
         let text = std::fs::read(path).expect("text");
         let mut differences = 0;
         for p in &pairs {
-            let (good, got) = (bench.good(p, &text, Feed::Pipe), bench.tested(p, &text, Feed::Pipe));
-            if differs(&good.bytes, &got) {
-                differences += 1;
-                println!("{}: DIFFERENT, ended with {:?}", p.name, got.end);
-                println!("    {}", first_different_line(&good.bytes, &got.bytes));
-            } else {
-                println!("{}: same, {} bytes of answer", p.name, good.bytes.len());
+            let months: Vec<u32> = (0..=summary::LAST_MONTH + 1).chain([u32::MAX]).collect();
+            for &month in if p.is_of_month() { &months[..] } else { &[0] } {
+                let mut way = Way::of_month(Feed::Pipe, month, 0xEE);
+                if !p.is_of_month() {
+                    way.args.clear();
+                }
+                let (good, got) = (bench.good(p, &text, &way), bench.tested(p, &text, &way));
+                if p.differs(&good, &got) {
+                    differences += 1;
+                    println!("{} {:?}: DIFFERENT, ended with {:?}", p.name, way.args, got.end);
+                    println!("    {}", first_different_line(&good.bytes, &got.bytes));
+                } else {
+                    println!("{} {:?}: same, {} bytes of answer", p.name, way.args, good.bytes.len());
+                }
             }
         }
         drop(bench);
@@ -398,34 +457,49 @@ fn main() {
             };
             let programs = r.percent(o.programs);
             progress.at("texts", o.seed, i);
-            let run = reference::text::run(&text);
+            let run = text::run(&text);
             stats.note(&text, &run, maker);
-            let mut trouble: Vec<(&Pair, Vec<u8>, String)> = Vec::new();
-            for p in &pairs {
-                if p.is_program() && !programs {
+            let plain = Way { feed, args: Vec::new(), fill: 0 };
+            let mut pages: Vec<Way> = Vec::new();
+            for _ in 0..r.pick(&[1, 1, 2]) {
+                let month = generate::month_of(&mut r, &run);
+                pages.push(Way::of_month(feed, month, r.next() as u8));
+                stats.note_page(&run, month);
+            }
+            let mut arguments = pages.clone();
+            if r.percent(4) {
+                arguments.push(Way { args: generate::bad_arguments(&mut r), ..plain.clone() });
+            }
+            let mut trouble: Vec<(&Pair, Vec<u8>, Way, String)> = Vec::new();
+            let each_way = |p: &Pair| match (p.print, p.is_program()) {
+                (Print::All(_), _) => vec![plain.clone()],
+                (Print::Month(_), false) => pages.clone(),
+                (Print::Month(_), true) => arguments.clone(),
+            };
+            for (p, way) in pairs.iter().flat_map(|p| each_way(p).into_iter().map(move |way| (p, way))) {
+                if p.is_program() && !programs && !p.is_of_month() {
                     continue;
                 }
-                let good = (p.print)(&run);
-                if p.is_program() {
+                let good = p.prints(&run, &way);
+                if p.is_program() && programs {
                     if p.name == "prepay" {
                         feeds[match feed { Feed::Pipe => 0, Feed::Pieces(_) => 1, Feed::File => 2 }] += 1;
                     }
-                    let own = bench.good(p, &text, feed);
-                    if own.bytes != good.as_bytes() || own.end != End::Exit(0) {
+                    if bench.good(p, &text, &way) != good {
                         println!("text {i}: {} is not what its own library prints", p.name);
                         exit(2);
                     }
                 }
-                let got = bench.tested(p, &text, feed);
+                let got = bench.tested(p, &text, &way);
                 *ends.entry((p.name, got.end.clone())).or_default() += 1;
-                if differs(good.as_bytes(), &got) {
-                    trouble.push((p, text.clone(), format!("a {maker} text")));
+                if p.differs(&good, &got) {
+                    trouble.push((p, text.clone(), way, format!("a {maker} text")));
                 } else if let (Side::Library(printer), true) = (&p.side, r.percent(10)) {
                     // The same with a buffer that is too short.
                     let room = printer.room();
                     let out_len = match r.below(5) {
                         0 => 0,
-                        1 => good.len().min(room - 1),
+                        1 => good.bytes.len().min(room - 1),
                         2 => r.index(room),
                         _ => room - 1,
                     };
@@ -449,21 +523,22 @@ fn main() {
                 place_texts += 1;
                 for t in each {
                     places += 1;
-                    let run = reference::text::run(&t);
-                    let found = pairs.iter().filter(|p| !p.is_program()).find(|p| {
-                        differs((p.print)(&run).as_bytes(), &bench.tested(p, &t, Feed::Pipe))
-                    });
+                    let run = text::run(&t);
+                    let found = pairs
+                        .iter()
+                        .filter(|p| !p.is_program() && !p.is_of_month())
+                        .find(|p| p.differs(&p.prints(&run, &plain), &bench.tested(p, &t, &plain)));
                     if let Some(p) = found {
-                        trouble.push((p, t, "a text with a wrong byte".into()));
+                        trouble.push((p, t, plain.clone(), "a text with a wrong byte".into()));
                         break;
                     }
                 }
             }
-            for (p, text, what) in trouble {
+            for (p, text, way, what) in trouble {
                 progress.differences += 1;
                 println!("\nDIFFERENCE {} in {}: seed {} text {i}, {what}", progress.differences, p.name, o.seed);
                 let name = format!("{}-seed{}-text{i}", p.name, o.seed);
-                report(&o, &bench, p, &name, &text, feed);
+                report(&o, &bench, p, &name, &text, &way);
             }
         }
         text_time += now.elapsed();

@@ -1,8 +1,12 @@
 //! What the texts reached, counted on the reference's side.
 
-use reference::ledger::{cost_at, Book, Entry, Event, Ledger, Usage, MOST_EVENTS};
+use crate::lent::LEAST_PAGE;
+use reference::calendar::Date;
+use reference::ledger::{cost_at, Book, Entry, Event, Ledger, Payment, Usage, MOST_EVENTS};
+use reference::head::PAGE_ROOM;
 use reference::numbers::Numbers;
 use reference::rows::Record;
+use reference::summary::summary;
 use reference::text::{Run, MOST_BYTES};
 use std::collections::BTreeMap;
 use Event::*;
@@ -45,6 +49,9 @@ pub struct Stats {
     pub makers: BTreeMap<&'static str, u64>,
     /// Near-limit situations, by name.
     pub edges: BTreeMap<&'static str, u64>,
+    /// Pages of accounts by month, 15 being any later one; and what they had.
+    pub months: [u64; 16],
+    pub pages: BTreeMap<&'static str, u64>,
 }
 
 impl Stats {
@@ -91,6 +98,59 @@ impl Stats {
             self.edge("R over 32 bits", step.plan > u32::MAX as i64);
             self.edge("value over 32 bits", step.answer.value > u32::MAX as i64);
         }
+    }
+
+    /// The page of a month of a text's account.
+    pub fn note_page(&mut self, run: &Run, m: u32) {
+        let Run::Account { ledger: l, .. } = run else { return };
+        self.months[m.min(15) as usize] += 1;
+        let mut had = |name, seen: bool| *self.pages.entry(name).or_default() += seen as u64;
+        let s = summary(l, m);
+        had("month 14 with days", m == 14 && s.code == 0);
+        had("month 14 without days (3)", m == 14 && s.code == 3);
+        had("a later month (3)", m > 14 && s.code == 3);
+        had("printed", s.code == 0);
+        if s.code != 0 {
+            return;
+        }
+        had("in the opening year's next year", m > 0 && l.terms.open.month + m > 12 && l.terms.open.month + m <= 24);
+        had("in the year after that", l.terms.open.month + m > 24);
+        had("payments kept: 0", s.kept_count == 0);
+        had("payments kept: 1", s.kept_count == 1);
+        had("payments kept: 2 to 9", (2..=9).contains(&s.kept_count));
+        had("payments kept: 10 to 127", (10..=127).contains(&s.kept_count));
+        had("payments kept: 128", s.kept_count == 128);
+        had("payments kept and reversed", s.kept_count > 0 && s.reversed_count > 0);
+        had("payments reversed alone", s.kept_count == 0 && s.reversed_count > 0);
+        let kept = l.list_payments().into_iter().filter(|p| !p.reversed);
+        let dates: Vec<(Date, Payment)> = kept.map(|p| (l.terms.open.plus(p.day), p)).collect();
+        let here = |d: &Date| d.months_after(l.terms.open) == m;
+        had("a payment on the first of the month", dates.iter().any(|(d, _)| here(d) && d.day == 1));
+        had("a payment on the last of the month", dates.iter().any(|(d, _)| here(d) && !here(&d.next())));
+        had("a payment on February 29", dates.iter().any(|(d, _)| here(d) && (d.month, d.day) == (2, 29)));
+        had("a payment on the day before the month", dates.iter().any(|(d, _)| !here(d) && here(&d.next())));
+        had("a payment on the day after the month", dates.iter().any(|(d, _)| !here(d) && d.day == 1 && d.months_after(l.terms.open) == m + 1));
+        had("a payment below 10 cents", dates.iter().any(|(d, p)| here(d) && p.amount < 10));
+        had("usage: metered alone", s.metered_cost > 0 && s.estimated_wh == 0);
+        had("usage: estimated alone", s.metered_wh == 0 && s.estimated_cost > 0);
+        had("usage: both", s.metered_cost > 0 && s.estimated_cost > 0);
+        for (i, &sum) in s.kinds.iter().enumerate().skip(2) {
+            let other = s.kinds[i % 3 + 2];
+            had("kinds 3 to 5: 0.00", sum == 0);
+            had("kinds 3 to 5: below 10 cents", 0 < sum && sum < 10);
+            had("kinds 3 to 5: 10 cents to a dollar", 10 <= sum && sum < 100);
+            had("kinds 3 to 5: more", sum >= 100);
+            had("kinds 3 to 5: unlike the next one's", sum != other);
+        }
+        let width = format!("{}.{:02}", s.average / 100, s.average % 100).len();
+        had("average: missing", s.missing);
+        had("average: missing, with charges", s.missing && s.kinds[0] + s.kinds[1] > 0);
+        had("average: below a cent", !s.missing && s.average < 100);
+        had("average: up to 13 columns", !s.missing && s.average >= 100 && width < 14);
+        had("average: 14 columns", width == 14);
+        had("average: 99999999000.00", s.average == 9_999_999_900_000);
+        had("average: 15 columns and more", width > 14);
+        had("average: 10,000,000,000,000", s.average == 10_000_000_000_000);
     }
 
     /// `l` is the ledger just before the event.
@@ -282,6 +342,10 @@ impl Stats {
         for (name, n) in &self.edges {
             println!("  {name:<42} {n:>9}");
         }
+        println!("\npages asked for by month (0 to 14, then later ones): {:?}", self.months);
+        for (name, n) in &self.pages {
+            println!("  {name:<42} {n:>9}");
+        }
     }
 }
 
@@ -300,6 +364,9 @@ pub struct CallStats {
     pub rows_in_all: u64,
     pub row_events: u64,
     pub figures: u64,
+    /// Pages by code and by their buffer; and what numbers that another hand changed showed.
+    pub pages: BTreeMap<(u8, &'static str), u64>,
+    pub odd_pages: BTreeMap<&'static str, u64>,
     pub readings: u64,
     /// Answers to events (1: of no account), and rows answered 16.
     pub codes: [u64; CODES],
@@ -393,6 +460,49 @@ impl CallStats {
         }
     }
 
+    /// A page of `n` asked for in a buffer, `page` being the page or a refusal.
+    pub fn note_page(&mut self, n: &Numbers, month: u32, page: &Result<String, u8>, buffer: usize, damaged: bool) {
+        let length = page.as_ref().map_or(LEAST_PAGE, |p| p.len());
+        let kind = match buffer {
+            0 => "no buffer",
+            b if b == length => "as long as the page",
+            b if b + 1 == length => "one byte short",
+            b if b < length => "shorter",
+            b if b == length + 1 => "one byte longer",
+            _ => "longer",
+        };
+        let code = match page {
+            Ok(_) if buffer < length => 16,
+            Ok(_) => 0,
+            Err(code) => *code,
+        };
+        *self.pages.entry((code, kind)).or_default() += 1;
+        if !damaged {
+            return;
+        }
+        let mut odd = |name, seen: bool| *self.odd_pages.entry(name).or_default() += seen as u64;
+        let account = n.is_account();
+        let sums = n.charges.chunks(5).nth(month as usize).unwrap_or(&[0; 5]);
+        let most = 1u64 << 40;
+        odd("no account (1)", !account);
+        odd("no account, and no days (1)", !account && month > 14);
+        odd("charges of kind 1 or 2 above 2^40 alone (1)", code == 1 && account && sums[2..].iter().all(|&s| s <= most));
+        odd("charges of kinds 3 to 5 above 2^40 alone (1)", code == 1 && account && sums[..2].iter().all(|&s| s <= most));
+        odd("charges above 2^40 in a month without days (3)", code == 3 && sums.iter().any(|&s| s > most));
+        odd("charges of kinds 1 and 2 of 2^40", code == 0 && sums[..2].contains(&most));
+        odd("charges of kinds 3 to 5 of 2^40", code == 0 && sums[2..].contains(&most));
+        odd("printed", code == 0);
+        let Ok(printed) = page else { return };
+        let s = summary(n, month);
+        odd("usage of 0 Wh with a cost", s.metered_wh + s.estimated_wh == 0 && s.metered_cost + s.estimated_cost > 0);
+        odd("usage of 32 bits and more", s.metered_cost + s.estimated_cost > u32::MAX as i64);
+        odd("usage of 13 columns", s.metered_cost + s.estimated_cost >= 100_000_000_000);
+        odd("128 payments", printed.len() == PAGE_ROOM);
+        odd("a payment of 2^32 - 1", printed.contains("42949672.95"));
+        odd("a payment of nothing", printed.lines().any(|l| l.starts_with("Paid") && l.ends_with(" 0.00")));
+        odd("an average of 14 columns", printed.lines().any(|l| l.starts_with("Average") && !l.ends_with(' ') && l.as_bytes()[58] != b' '));
+    }
+
     pub fn note_row(&mut self, row: &[Record], buffer: usize, answer: u8, codes: &[u8], damaged: bool) {
         self.rows_in_all += 1;
         let kind = match (row.len(), buffer) {
@@ -431,6 +541,14 @@ impl CallStats {
             self.lists, self.calls, self.posts, self.rows_in_all, self.row_events, self.figures, self.readings
         );
         println!("accounts opened {}, terms refused (1) {}", self.opened[0], self.opened[1]);
+        println!("pages {}, by code and buffer:", self.pages.values().sum::<u64>());
+        for ((code, name), n) in &self.pages {
+            println!("  code {code:<2} {name:<20} {n:>9}");
+        }
+        println!("pages of accounts on which another hand has been:");
+        for (name, n) in &self.odd_pages {
+            println!("  {name:<50} {n:>9}");
+        }
         println!("lists by generator:");
         for (name, n) in &self.makers {
             println!("  {name:<14} {n:>9}");
