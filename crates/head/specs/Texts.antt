@@ -8,7 +8,7 @@ use Rattle.scanner.specs.Scanner.{got}
 use Rattle.transcript.specs.Events.{Fold, fold_events}
 use Rattle.text.specs.Text.{terms_in}
 use Rattle.transcript.specs.Transcript.{ledger_lines}
-use Rattle.statement.specs.Statement.{event_list}
+use Rattle.text_account.specs.TextAccount.{event_list}
 use Rattle.reader.specs.Reader.{at_end, begun, EventAnswer, answers}
 
 -- The terms read, and the code; refused, the lent terms stay.

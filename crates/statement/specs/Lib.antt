@@ -1,2 +1,1 @@
 pub mod Statement
-pub mod Work

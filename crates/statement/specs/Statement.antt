@@ -1,15 +1,14 @@
 -- What `summary` prints, as a definition of the bytes it was given, in the ledger's terms.
-use Rattle.std.specs.Prelude.{ℕ, zero, suc, ◌+◌, ◌≡◌, cond, List, [], ◌∷◌, ◌++◌, get_or}
+use Rattle.std.specs.Prelude.{ℕ, zero, suc, ◌+◌, cond, List, [], ◌∷◌, ◌++◌, get_or}
 use Rattle.calendar.specs.Calendar.{month_count}
 use Rattle.terms.specs.declared.Terms.{Terms}
-use Rattle.ledger.specs.declared.Event.{Event}
 use Rattle.ledger.specs.declared.Summary.{Summary}
 use Rattle.ledger.specs.Ledger.{ledger_of}
 use Rattle.ledger.specs.Months.{ledger_summary}
 use Rattle.scanner.specs.Scanner.{bytes, feed}
 use Rattle.printing.specs.Printing.{decimal, Whole}
-use Rattle.transcript.specs.Events.{Fold, fold_by, fold_events}
 use Rattle.transcript.specs.Transcript.{by_text}
+use Rattle.text_account.specs.TextAccount.{events_of}
 
 -- ---- a line
 
@@ -61,22 +60,6 @@ month_lines f zero = []
 month_lines f (suc n) = month_lines f n ++ summary_line n (f n)
 
 -- ---- the text
-
--- the events that stand in the bytes, up to the end or to the first that breaks the form
-abbrev pub event_list : Fold Unit (List Event)
-event_list = record {
-  step = λ (x : Unit) (e : Event). x;
-  event = λ (x : Unit) (e : Event) (more : List Event). e ∷ more;
-  malformed = λ (x : Unit). [];
-  end = λ (x : Unit). [];
-}
-
-abbrev pub events_of : List ℕ → List Event
-events_of s = fold_events event_list tt s
-
--- The equation holds without the count, for every text.
-abbrev pub EventsSuffice : Type 0
-EventsSuffice = (s : List ℕ) → events_of s ≡ fold_by event_list (fold_events event_list) tt s
 
 abbrev pub all_months : Terms → List ℕ → List ℕ
 all_months t r = month_lines (ledger_summary t (ledger_of t (events_of r)).list) month_count

@@ -1,20 +1,17 @@
 // What `summary` prints for a text: its month figures, put whole into a lent buffer.
-// It uses the calendar, the ledger's refusals and summary, the account, the posting call, the event text, the month's figures, the printing and the
-// transcript, and in its definitions the terms, the scanner's and the refinement's. Its promise cites specs/Statement.antt, and inside the crate
-// specs/Work.antt.
+// It uses the calendar, the ledger's summary, the account, the account of a text, the month's figures, the printing and the transcript, and in its
+// definitions the terms and the scanner's. Its promise cites specs/Statement.antt.
 #![tactic(auto)]
 
-ghost use Rattle.std.specs.Prelude.{◌≡◌, ℕ};
+ghost use Rattle.std.specs.Prelude.{ℕ};
 ghost use Rattle.printing.specs.Printer.{HasRoom, Writes, WritesWithin};
-ghost use Rattle.refinement.specs.Lists.{account_after};
 ghost use Rattle.months.specs.Summary.{summary_of};
 ghost use Rattle.calendar.specs.Calendar.{month_count};
-ghost use Rattle.statement.specs.Statement.{payments_part, usage_part, charges_part, summary_line, payments_room, usage_room, charges_room, summary_room, statement_room, month_lines, events_of, EventsSuffice, WholeStatement};
-ghost use Rattle.statement.specs.Work.{IsTextOpened};
+ghost use Rattle.statement.specs.Statement.{payments_part, usage_part, charges_part, summary_line, payments_room, usage_room, charges_room, summary_room, statement_room, month_lines, WholeStatement};
 
 use account::Account;
 use calendar::MONTH_COUNT;
-use ledger::{Refusal, Summary};
+use ledger::Summary;
 use printing::Printer;
 
 // A buffer that holds any statement.
@@ -84,33 +81,6 @@ fn put_months(page: &mut Printer, a: &Account)
 
 // ---- the text
 
-// The count of events in their definition leaves none out.
-pub fn count_suffices()
-    ensures { EventsSuffice }
-{}
-
-// The account that a text's terms open, and the text's rest.
-fn open(text: &[u8]) -> Result<(Account, &[u8]), Refusal>
-    ensures { IsTextOpened text.now result }
-{
-    let (terms, rest) = text::terms_in(text).ok_or(Refusal::Form)?;
-    let account = account::open(terms)?;
-    Ok((account, rest))
-}
-
-// The events of a text, to its end or to the first that breaks the form.
-fn post_events(a: &mut Account, text: &[u8])
-    ensures { a.new ≡ account_after a.old (events_of text.now) }
-{
-    // While an event stands there: there is nothing to count.
-    let mut rest = text;
-    while let Some((event, after)) = text::read_event(rest) {
-        // a refused event leaves the account as it is
-        let _ = posting::post(a, event);
-        rest = after;
-    }
-}
-
 // The statement of a text, from the start of the buffer on, and how many bytes it has. A buffer shorter than `STATEMENT_ROOM` is left alone, and
 // the answer is 0: C takes it as a length.
 pub fn statement(text: &[u8], out: &mut [u8]) -> usize
@@ -120,11 +90,8 @@ pub fn statement(text: &[u8], out: &mut [u8]) -> usize
         return 0;
     }
     let mut page = Printer { out, at: 0 };
-    match open(text) {
-        Ok((mut account, rest)) => {
-            post_events(&mut account, rest);
-            put_months(&mut page, &account);
-        }
+    match text_account::account_of(text) {
+        Ok(account) => put_months(&mut page, &account),
         Err(refusal) => transcript::put_refusal(&mut page, refusal),
     }
     page.at

@@ -26,6 +26,6 @@ unfoldable pub fold_in : {S Y : Type 0} → Fold S Y → ℕ → S → List ℕ 
 fold_in w zero x s = w.end x
 fold_in w (suc k) x s = fold_by w (fold_in w k) x s
 
--- There are no more events than bytes, so nothing is cut off: `transcript::counts_suffice`, `statement::count_suffices`.
+-- There are no more events than bytes, so nothing is cut off: `transcript::counts_suffice`, `text_account::count_suffices`.
 abbrev pub fold_events : {S Y : Type 0} → Fold S Y → S → List ℕ → Y
 fold_events w x s = fold_in w (suc (length s)) x s

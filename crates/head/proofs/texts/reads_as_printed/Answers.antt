@@ -1,5 +1,5 @@
 use Rattle.transcript.specs.Transcript.{ledger_lines}
-use Rattle.statement.specs.Statement.{event_list}
+use Rattle.text_account.specs.TextAccount.{event_list}
 use Rattle.head.proofs.Events.{in-text}
 use Rattle.head.proofs.texts.reads_as_printed.Goals as goal
 

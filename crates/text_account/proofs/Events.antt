@@ -12,7 +12,7 @@ use Rattle.text.specs.Text.{read_event}
 use Rattle.text.proofs.Laws.{event-progress}
 use Rattle.transcript.specs.Events.{fold_events}
 use Rattle.transcript.proofs.Counts.{fold-got, fold-broken, fold-suffices}
-use Rattle.statement.specs.Statement.{event_list, events_of, EventsSuffice}
+use Rattle.text_account.specs.TextAccount.{event_list, events_of, EventsSuffice}
 
 -- ---- the events by what stands there, and that their count is enough
 

@@ -1,10 +1,10 @@
--- `statement::post_events` meets its contract. Assumes nothing.
-use Rattle.std.proofs.Common.{refl, sym, ap, ◌∙◌, arith}
+-- `text_account::post_events` meets its contract. Assumes nothing.
+use Rattle.std.proofs.Common.{sym, ap, ◌∙◌}
 use Rattle.account.specs.declared.Account.{Account}
 use Rattle.refinement.specs.Lists.{account_after}
-use Rattle.statement.specs.Statement.{events_of}
-use Rattle.statement.proofs.Events.{posts, ends}
-use Rattle.statement.proofs.post_events.Goals as goal
+use Rattle.text_account.specs.TextAccount.{events_of}
+use Rattle.text_account.proofs.Events.{posts, ends}
+use Rattle.text_account.proofs.post_events.Goals as goal
 
 pub loop-event-preserved : goal.loop-event-preserved
 loop-event-preserved c =

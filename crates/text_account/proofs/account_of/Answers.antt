@@ -1,10 +1,10 @@
--- `statement::open` meets its contract. Assumes nothing.
+-- `text_account::account_of` meets its contract. Assumes nothing.
 use Rattle.std.proofs.Common.{◌≡◌, ◌∙◌, Err, rules}
 use Rattle.scanner.specs.Scanner.{got}
 use Rattle.text.specs.Text.{terms_in}
 use Rattle.transcript.proofs.Terms.{by-terms, refused}
-use Rattle.statement.proofs.Whole.{opens}
-use Rattle.statement.proofs.open.Goals as goal
+use Rattle.text_account.proofs.Whole.{makes}
+use Rattle.text_account.proofs.account_of.Goals as goal
 
 pub returns-in_err-account : goal.returns-in_err-account
 returns-in_err-account c =
@@ -16,4 +16,4 @@ returns-in_err-account c =
 pub returns : goal.returns
 returns c =
     let e : terms_in c.args.text.now ≡ got c.in_ok-terms.terms c.in_ok-terms.rest.now = search rules in
-    opens _ _ _ _ e c.in_ok-account.ensures
+    makes _ _ _ _ _ e c.in_ok-account.ensures c.post_events.ensures
