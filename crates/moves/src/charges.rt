@@ -9,6 +9,7 @@ use ledger::{CHARGE_KIND_COUNT, Refusal};
 
 impl Checked<'_> {
     #[tactic(auto, using(crate::proofs::Early::early, crate::proofs::Early::charge_bounds), unfolding(crate::specs::Moves::charge_of))]
+    #[inline(always)]
     pub(crate) fn charge(self) -> Result<Move, Refusal>
         requires { self.event.sort ≡ 4 }
         ensures { Gives self.entry result (λ t m e. charge_of t m self.entry.cells.charges.now e) }

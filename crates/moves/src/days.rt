@@ -13,7 +13,7 @@ use terms::MAX_PRICE;
 
 impl Checked<'_> {
     // The cost of the event's usage day at the price in force on it, or a refusal: by 7 where the day is not before the event's, by 1 where no
-    // account has that price. (Inlined: a call copies all of `self`.)
+    // account has that price.
     #[inline(always)]
     fn usage_cost(self) -> Result<u64, Refusal>
         ensures { let c = self.entry in let p = usage_price c.cells.terms c.cells.prices.now c.event in
@@ -31,6 +31,7 @@ impl Checked<'_> {
     }
 
     #[tactic(auto, using(crate::proofs::Early::early, crate::proofs::Early::usage_cost), unfolding(crate::specs::Moves::estimate_of, crate::specs::Moves::estimated_of))]
+    #[inline(always)]
     pub(crate) fn estimate(self) -> Result<Move, Refusal>
         requires { self.event.sort ≡ 5 }
         ensures { Gives self.entry result (λ t m e. estimate_of t m self.entry.cells.prices.now e) }
@@ -60,6 +61,7 @@ impl Checked<'_> {
     }
 
     #[tactic(auto, using(crate::proofs::Early::early, crate::proofs::Early::usage_cost), unfolding(crate::specs::Moves::read_of, crate::specs::Moves::metered_of))]
+    #[inline(always)]
     pub(crate) fn read(self) -> Result<Move, Refusal>
         requires { self.event.sort ≡ 6 }
         ensures { Gives self.entry result (λ t m e. read_of t m self.entry.cells.prices.now e) }

@@ -10,7 +10,7 @@ use ledger::{Event, MAX_EVENTS, MAX_PAYMENTS, Refusal};
 use tariff::PRICE_CELLS;
 
 // An event that passed the checks, with the account's cells, and the move that leaves them as they are. Its ghost field is what the sorts'
-// functions rest on: the fields are within their limits, and no sum wraps.
+// functions rest on: the fields are within their limits, and no sum wraps. Its functions are inlined, and `move_of`: a call would copy all of it.
 #[derive(Clone, Copy)]
 pub(crate) struct Checked<'a> {
     pub cells: Cells<'a>,
@@ -22,6 +22,7 @@ pub(crate) struct Checked<'a> {
 impl<'a> Checked<'a> {
     // Refused by 1 where the record is no account, then by 2, 3 or 4.
     #[tactic(auto, unfolding(crate::specs::Moves::early_code, crate::specs::Moves::cells_before))]
+    #[inline(always)]
     pub(crate) fn new(cells: Cells<'a>, event: Event) -> Result<Checked<'a>, Refusal>
         ensures code { let c = cells.entry in code_of result ≡ early_code c.terms c.totals event }
         ensures same { let c = cells.entry in
@@ -62,6 +63,7 @@ impl<'a> Checked<'a> {
 
     // The weekday of the event's day. (This and the next differ in the call.)
     #[tactic(auto, using(crate::proofs::Early::weekday_is))]
+    #[inline(always)]
     pub(crate) fn weekday(self) -> Weekday
         ensures { let c = self.entry in weekday_number result ≡ weekday_on c.cells.terms.opened c.event.day }
     {
@@ -71,6 +73,7 @@ impl<'a> Checked<'a> {
 
     // The month of the event's day.
     #[tactic(auto, using(crate::proofs::Early::month_is))]
+    #[inline(always)]
     pub(crate) fn month(self) -> u32
         ensures { let c = self.entry in result ≡ month_on c.cells.terms.opened c.event.day }
     {

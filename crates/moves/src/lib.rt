@@ -143,6 +143,7 @@ pub struct Cells<'a> {
 impl Checked<'_> {
     // The move of the event by its sort: a match on the number with a range arm, as document 01 names it, since C hands in any number.
     #[tactic(auto, unfolding(crate::specs::Moves::by_sort))]
+    #[inline(always)]
     fn by_sort(self) -> Result<Move, Refusal>
         ensures { let c = self.entry.cells in
             Gives self.entry result (λ t m e. by_sort t m (arrays_in c) e e.sort) }
@@ -167,6 +168,7 @@ impl Checked<'_> {
 
 // The move of an event over the cells, or its refusal.
 #[tactic(auto, using(crate::proofs::Places::is_move), unfolding(crate::specs::Moves::cells_before, crate::specs::Moves::move_of))]
+#[inline(always)]
 pub fn move_of(cells: Cells, e: Event) -> Result<Move, Refusal>
     ensures { let c = cells.entry in
         IsMove c.terms c.totals c.payment c.day (arrays_in c) e result }

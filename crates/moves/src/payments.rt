@@ -18,6 +18,7 @@ fn plan_part(plan: u64, amount: u32, share: u32) -> u32
 
 impl Checked<'_> {
     #[tactic(auto, using(crate::proofs::Early::early), unfolding(crate::specs::Moves::pay_of))]
+    #[inline(always)]
     pub(crate) fn pay(self) -> Result<Move, Refusal>
         ensures { Gives self.entry result pay_of }
     {
@@ -49,6 +50,7 @@ impl Checked<'_> {
     }
 
     #[tactic(auto, using(crate::proofs::Early::early), unfolding(crate::specs::Moves::reverse_of))]
+    #[inline(always)]
     pub(crate) fn reverse(self) -> Result<Move, Refusal>
         ensures { Gives self.entry result reverse_of }
     {
@@ -75,6 +77,7 @@ impl Checked<'_> {
     }
 
     #[tactic(auto, using(crate::proofs::Early::early), unfolding(crate::specs::Moves::credit_of))]
+    #[inline(always)]
     pub(crate) fn credit(self) -> Result<Move, Refusal>
         ensures { Gives self.entry result credit_of }
     {

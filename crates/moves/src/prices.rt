@@ -9,6 +9,7 @@ use tariff::PRICE_CELLS;
 
 impl Checked<'_> {
     #[tactic(auto, using(crate::proofs::Early::early), unfolding(crate::specs::Moves::price_of))]
+    #[inline(always)]
     pub(crate) fn price(self) -> Result<Move, Refusal>
         ensures { Gives self.entry result (λ t m e. price_of t m self.entry.cells.prices.now e) }
     {

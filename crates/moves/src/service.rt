@@ -9,6 +9,7 @@ use ledger::{REQUIRED_DEBT, Refusal};
 
 impl Checked<'_> {
     #[tactic(auto, using(crate::proofs::Early::early), unfolding(crate::specs::Moves::warn_of))]
+    #[inline(always)]
     pub(crate) fn warn(self) -> Result<Move, Refusal>
         ensures { Gives self.entry result warn_of }
     {
@@ -21,6 +22,7 @@ impl Checked<'_> {
     }
 
     #[tactic(auto, using(crate::proofs::Early::early, crate::proofs::Early::mark_order), unfolding(crate::specs::Moves::mark_of))]
+    #[inline(always)]
     pub(crate) fn mark(self) -> Result<Move, Refusal>
         requires { self.event.sort ≡ 8 }
         ensures { Gives self.entry result mark_of }
@@ -40,6 +42,7 @@ impl Checked<'_> {
 
     // Whether the plan kind's condition holds.
     #[tactic(auto, using(crate::proofs::Early::early))]
+    #[inline(always)]
     fn may_defer(self) -> bool
         ensures { let c = self.entry in result ≡ plan_condition_met c.cells.terms c.before.totals c.cells.marks.now c.event }
     {
@@ -53,6 +56,7 @@ impl Checked<'_> {
     }
 
     #[tactic(auto, using(crate::proofs::Early::early), unfolding(crate::specs::Moves::plan_of, crate::specs::Moves::deferring_of))]
+    #[inline(always)]
     pub(crate) fn plan(self) -> Result<Move, Refusal>
         ensures { Gives self.entry result (λ t m e. plan_of t m self.entry.cells.marks.now e) }
     {
@@ -80,6 +84,7 @@ impl Checked<'_> {
 
     // The move of an order that is carried out: service on or off.
     #[tactic(auto, using(crate::proofs::Early::early), unfolding(crate::specs::Moves::served_of))]
+    #[inline(always)]
     fn served(self, on: bool) -> Move
         ensures { Gives self.entry (Ok result) (λ t m e. served_of t m e on) }
     {
@@ -95,6 +100,7 @@ impl Checked<'_> {
 
     // Disconnect and connect stay two: each states its own rule, and what they share is `served`.
     #[tactic(auto, using(crate::proofs::Early::early), unfolding(crate::specs::Moves::disconnect_of))]
+    #[inline(always)]
     pub(crate) fn disconnect(self) -> Result<Move, Refusal>
         ensures { let c = self.entry.cells in Gives self.entry result (λ t m e. disconnect_of t m c.marks.now c.warned.now e) }
     {
@@ -117,6 +123,7 @@ impl Checked<'_> {
     }
 
     #[tactic(auto, using(crate::proofs::Early::early), unfolding(crate::specs::Moves::connect_of))]
+    #[inline(always)]
     pub(crate) fn connect(self) -> Result<Move, Refusal>
         ensures { Gives self.entry result connect_of }
     {
