@@ -1,5 +1,5 @@
 -- Numbers and words as bytes, and where they are put in a lent buffer.
-use Rattle.std.specs.Prelude.{ℕ, zero, suc, ◌+◌, ◌/◌, ◌%◌, ◌≤◌, ◌≡◌, Bool, cond, List, [], ◌∷◌, ◌++◌, length, take, drop, ltb, leb, ℤ, pos, negsuc}
+use Rattle.std.specs.Prelude.{ℕ, zero, suc, ◌+◌, ◌-◌, ◌/◌, ◌%◌, ◌≤◌, ◌≡◌, Bool, cond, List, [], ◌∷◌, ◌++◌, length, take, drop, replicate, ltb, leb, ℤ, pos, negsuc}
 
 -- a number in base ten, without leading zero, zero being `0`; `more` gives the digits of its tenth, rounded down
 abbrev pub digits_by : (ℕ → List ℕ) → ℕ → List ℕ
@@ -26,6 +26,28 @@ number_room = 20
 unfoldable pub signed : ℤ → List ℕ
 signed (pos n) = decimal n
 signed (negsuc n) = 45 ∷ decimal (suc n)
+
+-- the last two digits of a number: all, of one below 100
+abbrev pub two_digits : ℕ → List ℕ
+two_digits n = (48 + n / 10 % 10) ∷ (48 + n % 10) ∷ []
+
+-- a number of hundredths with two decimals, after a point
+unfoldable pub hundredths : ℕ → List ℕ
+hundredths n = decimal (n / 100) ++ (46 ∷ two_digits n)
+
+-- ---- columns
+
+abbrev pub spaces : ℕ → List ℕ
+spaces n = replicate n 32
+
+-- bytes from the first of so many columns on, and bytes that end in the last of them; the other columns are spaces
+abbrev pub aligned_left : ℕ → List ℕ → List ℕ
+aligned_left columns s = s ++ spaces (columns - length s)
+
+abbrev pub aligned_right : ℕ → List ℕ → List ℕ
+aligned_right columns s = spaces (columns - length s) ++ s
+
+-- ---- into a buffer
 
 -- whether bytes from place `at` on lie within the buffer
 unfoldable pub fits : List ℕ → ℕ → List ℕ → Bool

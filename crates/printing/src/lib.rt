@@ -2,8 +2,8 @@
 // specs/Printer.antt. No `write!`: std promises what that has put only where it answers `Ok`, and never that it does.
 #![tactic(auto)]
 
-ghost use Rattle.std.specs.Prelude.{◌≡◌, ◌++◌, ◌+◌, leb, length};
-ghost use Rattle.printing.specs.Printing.{decimal, DigitsSuffice, signed};
+ghost use Rattle.std.specs.Prelude.{◌≡◌, ◌++◌, ◌+◌, ◌%◌, leb, length};
+ghost use Rattle.printing.specs.Printing.{decimal, DigitsSuffice, signed, two_digits, hundredths};
 ghost use Rattle.printing.specs.Printer.{Prints};
 
 use itoa::{Buffer, Integer};
@@ -38,16 +38,22 @@ impl Printer<'_> {
         }
     }
 
-    // A word and the number after it, as one: nothing is put where both do not fit.
+    // A word and the bytes after it, as one: nothing is put where both do not fit.
+    fn put_both(&mut self, word: &[u8], bytes: &[u8])
+        ensures { Prints self.old (word.now ++ bytes.now) self.new }
+    {
+        if self.has_room(word.len() + bytes.len()) {
+            self.put_bytes(word);
+            self.put_bytes(bytes);
+        }
+    }
+
+    // The same of a number.
     fn put_number<I: Integer>(&mut self, word: &[u8], n: I)
         ensures { Prints self.old (word.now ++ I.text n) self.new }
     {
         let mut buffer = Buffer::new();
-        let digits = buffer.format(n).as_bytes();
-        if self.has_room(word.len() + digits.len()) {
-            self.put_bytes(word);
-            self.put_bytes(digits);
-        }
+        self.put_both(word, buffer.format(n).as_bytes());
     }
 
     // This and the next are the generic one under the paper's `decimal` and `signed`: the generic one's promise is in the kit's `I.text`.
@@ -62,6 +68,29 @@ impl Printer<'_> {
     {
         self.put_number(word, z);
     }
+
+    // The last two digits of a number.
+    pub fn put_two_digits(&mut self, word: &[u8], n: u64)
+        ensures { Prints self.old (word.now ++ two_digits n) self.new }
+    {
+        self.put_both(word, &[digit(n / 10), digit(n)]);
+    }
+
+    // A number of hundredths, with two decimals.
+    pub fn put_hundredths(&mut self, n: u64)
+        ensures { Prints self.old (hundredths n) self.new }
+    {
+        let mut buffer = Buffer::new();
+        let whole = buffer.format(n / 100).as_bytes();
+        self.put_both(whole, &[b'.', digit(n / 10), digit(n)]);
+    }
+}
+
+// A number's last digit.
+fn digit(n: u64) -> u8
+    ensures { result ≡ 48 + n % 10 }
+{
+    b'0' + (n % 10) as u8
 }
 
 // The definition of a number's digits counts them down from one more than the number, which is enough.
