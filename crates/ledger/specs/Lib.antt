@@ -4,6 +4,7 @@ pub mod Refusals
 pub mod Rules
 pub mod Ledger
 pub mod Calls
+pub mod Buffers
 pub mod Sums
 pub mod Invariant
 pub mod Months

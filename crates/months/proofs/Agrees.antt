@@ -31,7 +31,7 @@ use Rattle.refinement.specs.Lists.{Made}
 use Rattle.refinement.specs.Agree.{Agree, recorded_usage, recorded_payment}
 use Rattle.refinement.proofs.Agreed.{is-account}
 use Rattle.refinement.proofs.Lists.{made-represents}
-use Rattle.months.specs.Summary.{in_month_of, payment_kept, payment_reversed, payments_by, one, payment_amount, state_of, usage_by, summary_by, summary_of, IsSummary}
+use Rattle.months.specs.Summary.{in_month_of, payment_kept, payment_reversed, payments_by, one, payment_amount, state_of, usage_by, are_in_range, summary_by, summary_of, WithinLimits, IsSummary}
 use Rattle.calendar.proofs.Sums.{any_none, any_same}
 use Rattle.months.proofs.Sums.{total-same}
 use Rattle.months.proofs.Numbers.{by_number, Dated, dated-after}
@@ -98,10 +98,10 @@ module _ (t : Terms) (m : ℕ) (o : opens t.opened ≡ true) where
     back n = reversed l.list n
 
     pub summary-is : summary_of a m ≡ ledger_summary t l.list m
-    unfolding summary_by ledger_summary
+    unfolding summary_by ledger_summary are_in_range
     summary-is = rw (is-account t a l g, g.terms, has-days) (decide (has_days t m)
         (λ y. let h : m ≤ 14 = month-small y in
-        rw (y, first h, charge 1 h (omega arith), charge 2 h (omega arith), charge 3 h (omega arith), charge 4 h (omega arith), small 1, small 2, paid payment_kept live one (λ (x : Option Entry). 1) (λ n. refl) (λ n. refl), paid payment_kept live payment_amount (or_zero amount_of) (λ n. refl) (λ n. refl), paid payment_reversed back one (λ (x : Option Entry). 1) (λ n. refl) (λ n. refl), paid payment_reversed back payment_amount (or_zero amount_of) (λ n. refl) (λ n. refl), used metered_wh_of, used metered_cost_of, used estimated_wh_of, used estimate_cost_of))
+        rw (y, first h, charge 1 h (omega arith), charge 2 h (omega arith), charge 3 h (omega arith), charge 4 h (omega arith), small 1, small 2, small 3, small 4, small 5, paid payment_kept live one (λ (x : Option Entry). 1) (λ n. refl) (λ n. refl), paid payment_kept live payment_amount (or_zero amount_of) (λ n. refl) (λ n. refl), paid payment_reversed back one (λ (x : Option Entry). 1) (λ n. refl) (λ n. refl), paid payment_reversed back payment_amount (or_zero amount_of) (λ n. refl) (λ n. refl), used metered_wh_of, used metered_cost_of, used estimated_wh_of, used estimate_cost_of))
         (λ f. rw f))
 
 -- The summary of an account that this software made is the ledger's of the same events.
@@ -121,5 +121,9 @@ no-account a m h = decide (is_account a.terms a.totals)
     (λ y. absurd (omega (arith, past-refused a y, h past)))
     (λ f. simp f)
 
-pub promised : (a : Account) (m : ℕ) (r : Summary) → r ≡ summary_of a m → IsSummary a m r
-promised a m r e = record { account = e; ledgers = λ t es h. e ∙ summary-made a m t es h; none = λ h. e ∙ no-account a m h }
+pub promised : (a : Account) (m : ℕ) (r : Summary) → r ≡ summary_of a m → WithinLimits r → IsSummary a m r
+promised a m r e w = record { account = e; ledgers = λ t es h. e ∙ summary-made a m t es h; none = λ h. e ∙ no-account a m h; limits = w }
+
+pub promised-none : (a : Account) (m code : ℕ) → no_summary code ≡ summary_of a m → IsSummary a m (no_summary code)
+unfolding are_in_range
+promised-none a m code e = promised a m (no_summary code) e (record { wh = omega arith; cost = omega arith; charges = refl })

@@ -1,5 +1,5 @@
 -- The month summary off the account record.
-use Rattle.std.specs.Prelude.{ℕ, ◌+◌, ◌*◌, ◌≡◌, Bool, cond, not, ◌&&◌, List, [], ◌∷◌, get_or, leb, eqb}
+use Rattle.std.specs.Prelude.{ℕ, ◌+◌, ◌*◌, ◌≡◌, ◌≤◌, Bool, true, cond, not, ◌&&◌, List, [], ◌∷◌, get_or, leb, eqb}
 use Rattle.calendar.specs.declared.Date.{Date}
 use Rattle.calendar.specs.Calendar.{date_on, month_from, is_day, total, day_count}
 use Rattle.calendar.specs.Days.{any_day}
@@ -79,16 +79,25 @@ charges_of l m =
     ∷ get_or l (charge_kind_count * m + 4) 0
     ∷ []
 
--- No list of charges takes a month's sum past 2 ^ 40: a record that has one, of a kind that is in the average, is no account of this software's.
+-- No list of charges takes a month's sum past 2 ^ 40: a record that has one is no account of this software's.
 abbrev pub max_charge_sum : ℕ
 max_charge_sum = 1099511627776
+
+-- that of the k-th kind from 0
+abbrev pub is_in_range : List ℕ → ℕ → Bool
+is_in_range charges k = leb (get_or charges k 0) max_charge_sum
+
+unfoldable pub are_in_range : List ℕ → Bool
+are_in_range charges =
+    is_in_range charges 0
+    && (is_in_range charges 1 && (is_in_range charges 2 && (is_in_range charges 3 && is_in_range charges 4)))
 
 -- ---- the summary
 
 -- the figures of the payments, the usage and the charges; kinds 1 and 2 are in the average
 abbrev pub figures_by : Counted → Counted → Used → Used → List ℕ → Summary
 figures_by kept reversed metered_use estimated_use charges =
-    cond (leb (get_or charges 0 0) max_charge_sum && leb (get_or charges 1 0) max_charge_sum)
+    cond (are_in_range charges)
     (record {
       code = 0;
       kept = kept;
@@ -117,8 +126,19 @@ summary_by q a m =
 abbrev pub summary_of : Account → ℕ → Summary
 summary_of a m = cond (is_account a.terms a.totals) (summary_by (in_month_of a.terms.opened m) a m) (no_summary 1)
 
+-- the largest number that a field of a payment or a usage day can have, of any record: each is a u32
+abbrev pub max_field : ℕ
+max_field = 4294967295
+
+-- What no month's figures exceed, whatever the numbers of the account are: 400 usage days, each metered or estimated, and the charges above.
+pub record WithinLimits (s : Summary) : Type 0 where
+  pub wh : s.metered.wh + s.estimated.wh ≤ day_count * max_field
+  pub cost : s.metered.cost + s.estimated.cost ≤ day_count * max_field
+  pub charges : are_in_range s.charges ≡ true
+
 -- What `summary` promises: off the record, and in the ledger's terms. The record of which every event gets 1 gets 1 for the month too.
 pub record IsSummary (a : Account) (m : ℕ) (r : Summary) : Type 0 where
   pub account : r ≡ summary_of a m
   pub ledgers : IsLedgers a (λ (t : Terms) (l : Ledger). ledger_summary t l.list m) r
   pub none : ((e : Event) → (step_of a e).code ≡ 1) → r ≡ no_summary 1
+  pub limits : WithinLimits r

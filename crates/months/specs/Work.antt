@@ -2,10 +2,6 @@
 use Rattle.std.specs.Prelude.{ℕ, Bool, ◌&&◌, ltb, leb}
 use Rattle.std.specs.declared.ops.Range.{Range}
 
--- the largest number that a field of a payment or a usage day can have, of any record: each is a u32
-abbrev pub max_field : ℕ
-max_field = 4294967295
-
 -- a day of the range
 abbrev pub span : Range ℕ → ℕ → Bool
 span r k = leb r.start k && ltb k r.end

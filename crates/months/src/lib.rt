@@ -3,20 +3,20 @@
 // record, and in the ledger's terms. A place is cast by `as`, since u32 has no `From` into usize.
 #![tactic(auto)]
 
-ghost use Rattle.std.specs.Prelude.{◌≡◌, ◌+◌, ◌*◌, ◌≤◌, ◌<◌, eqb};
+ghost use Rattle.std.specs.Prelude.{◌≡◌, ◌+◌, ◌*◌, ◌≤◌, ◌<◌, true, get_or, eqb};
 ghost use Rattle.calendar.specs.Calendar.{day_count, month_count};
 ghost use Rattle.ledger.specs.Rules.{max_payments};
 ghost use Rattle.ledger.specs.Months.{average_of};
 ghost use Rattle.ledger.specs.Refusals.{average_or_0, is_average_missing, summary_record};
-ghost use Rattle.months.specs.Summary.{payment_kept, payment_reversed, counted_by, metered_by, estimated_by, charges_of, IsSummary};
-ghost use Rattle.months.specs.Work.{max_field, span, max_averaged};
+ghost use Rattle.months.specs.Summary.{payment_kept, payment_reversed, counted_by, metered_by, estimated_by, charges_of, max_charge_sum, are_in_range, max_field, IsSummary};
+ghost use Rattle.months.specs.Work.{span, max_averaged};
 
 use account::AsAccount;
 use ledger::{CHARGE_KIND_COUNT, Counted, Figures, KindSums, MAX_PAYMENTS, Refusal, Used};
 use moves::{Charges, Usage};
 use std::ops::Range;
 
-// No list of charges takes a sum past this: a record that has one, of kind 1 or 2, is no account of this software's.
+// No list of charges takes a sum past this: a record that has one is no account of this software's.
 const MAX_CHARGE_SUM: u64 = 1099511627776;
 
 // One payment more.
@@ -91,6 +91,22 @@ fn charges_in(charges: &Charges, m: u32) -> KindSums
     sums
 }
 
+// Whether a month's sums of charges are an account's.
+#[tactic(auto, unfolding(crate::specs::Summary::are_in_range))]
+fn are_in_range(charges: &KindSums) -> bool
+    ensures all { result ≡ are_in_range charges.now }
+
+    // those of the average
+    ensures two { result ≡ true → (get_or charges.now 0 0 ≤ max_charge_sum) × (get_or charges.now 1 0 ≤ max_charge_sum) }
+{
+    let [delivery, tax, reconnection, returned, other] = *charges;
+    delivery <= MAX_CHARGE_SUM
+        && tax <= MAX_CHARGE_SUM
+        && reconnection <= MAX_CHARGE_SUM
+        && returned <= MAX_CHARGE_SUM
+        && other <= MAX_CHARGE_SUM
+}
+
 // Hundredths of a cent per kWh; none where no Wh were used.
 fn average(cost: u64, wh: u64) -> Option<u64>
     requires { (cost ≤ max_averaged) × (wh ≤ max_averaged) }
@@ -101,7 +117,7 @@ fn average(cost: u64, wh: u64) -> Option<u64>
 }
 
 // Month m's figures, counted from the opening month, off an account however it is kept. It is refused by 1 where it is no account, then by 3 where
-// none of its days lies in the month, then by 1 where a sum of charges in the average is past any account's.
+// none of its days lies in the month, then by 1 where one of the month's sums of charges is past any account's.
 pub fn summary<A: AsAccount>(a: &A, m: u32) -> Result<Figures, Refusal>
     ensures { IsSummary (A.account a.now) m (summary_record result) }
 {
@@ -114,13 +130,12 @@ pub fn summary<A: AsAccount>(a: &A, m: u32) -> Result<Figures, Refusal>
         return Err(Refusal::Limits);
     };
     let charges = charges_in(a.charges(), m);
-    let delivery = charges[0];
-    let tax = charges[1];
-    if delivery > MAX_CHARGE_SUM || tax > MAX_CHARGE_SUM {
+    if !are_in_range(&charges) {
         return Err(Refusal::Terms);
     }
     let (kept, reversed) = paid_in(a, totals.count, &days);
     let (metered, estimated) = used_in(a, &days);
+    let [delivery, tax, ..] = charges;
     let cost = metered.cost + estimated.cost + delivery + tax;
     Ok(Figures {
         kept,

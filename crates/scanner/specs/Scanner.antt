@@ -71,6 +71,10 @@ is_number v =
     leb 1 (length v)
     && (all_digits v && ((eqb (length v) 1 || not (eqb (get_or v 0 0) 48)) && leb (value_from 0 v) max_number))
 
+-- the number that some bytes are
+unfoldable pub number_of : List ℕ → Option ℕ
+number_of v = cond (is_number v) (Some (value_from 0 v)) None
+
 unfoldable pub read_number : List ℕ → List ℕ → Read ℕ
 read_number key s = then (read_value key s) (λ (v r : List ℕ). cond (is_number v) (got (value_from 0 v) r) broken)
 

@@ -5,8 +5,8 @@
 #![tactic(auto)]
 
 ghost use Rattle.std.specs.Prelude.{◌≡◌};
-ghost use Rattle.scanner.specs.Scanner.{IsRead, IsValueRead, read_value, read_number, read_date};
-ghost use Rattle.scanner.specs.Values.{digit_of, decimal, number_of, two_digits_of, date_of};
+ghost use Rattle.scanner.specs.Scanner.{IsRead, IsValueRead, read_value, number_of, read_number, read_date};
+ghost use Rattle.scanner.specs.Values.{digit_of, decimal, two_digits_of, date_of};
 
 use calendar::Date;
 
@@ -43,9 +43,9 @@ fn decimal(digits: &[u8]) -> Option<u32>
     Some(number)
 }
 
-// "digits without sign or leading zero, zero being `0`"
-#[tactic(auto, unfolding(crate::specs::Values::number_of, crate::specs::Values::decimal, crate::specs::Scanner::is_number))]
-fn number_of(value: &[u8]) -> Option<u32>
+// "digits without sign or leading zero, zero being `0`": of a line's value, or of a program's argument.
+#[tactic(auto, unfolding(crate::specs::Scanner::number_of, crate::specs::Values::decimal, crate::specs::Scanner::is_number))]
+pub fn number_of(value: &[u8]) -> Option<u32>
     ensures { result ≡ number_of value.now }
 {
     match value {
@@ -54,7 +54,7 @@ fn number_of(value: &[u8]) -> Option<u32>
     }
 }
 
-#[tactic(auto, unfolding(crate::specs::Scanner::read_number, crate::specs::Values::number_of))]
+#[tactic(auto, unfolding(crate::specs::Scanner::read_number, crate::specs::Scanner::number_of))]
 pub fn read_number<'a>(text: &'a [u8], key: &[u8]) -> Option<(u32, &'a [u8])>
     ensures { IsRead (read_number key.now text.now) result }
 {

@@ -2,7 +2,8 @@
 use Prim.Native.Nat.{◌+◌, ◌≤◌, ◌*◌}
 use mathlib.Core.Path.{◌≡◌}
 use Rattle.months.specs.Summary.{metered_by, estimated_by}
-use Rattle.months.specs.Work.{max_field, span}
+use Rattle.months.specs.Summary.{max_field}
+use Rattle.months.specs.Work.{span}
 use Rattle.months.proofs.used_in.Given as goal
 
 abbrev pub invariant-loop-number : goal.invariant-loop-number
