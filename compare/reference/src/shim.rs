@@ -71,10 +71,10 @@ pub unsafe extern "C" fn prepay_summary(account: &Numbers, month: u32) -> c::Fig
 }
 
 #[no_mangle]
-pub unsafe extern "C" fn prepay_page(account: &Numbers, month: u32, out: *mut u8, out_len: usize) -> c::Answer {
+pub unsafe extern "C" fn prepay_page(account: *const Numbers, month: u32, out: *mut u8, out_len: usize) -> c::Answer {
     let out = std::slice::from_raw_parts_mut(out, out_len);
     safely(c::Answer { code: 255, value: 0 }, || {
-        let answer = page::put(account, month, out);
+        let answer = page::put(&*account, month, out);
         c::Answer { code: answer.code as u64, value: answer.value as u64 }
     })
 }

@@ -49,10 +49,13 @@ pub fn guarded_row(account: &mut Account, events: &[Event], buffer: usize, fill:
 }
 
 /// The answer for a month's page and the lent buffer afterwards, or what else was written.
-pub fn guarded_page(account: &Guarded<Account>, month: u32, buffer: usize, fill: u8) -> Result<(Answer, Vec<u8>), String> {
+pub fn guarded_page(account: &mut Guarded<Account>, month: u32, buffer: usize, fill: u8) -> Result<(Answer, Vec<u8>), String> {
     let before = account.held;
     let mut lent = vec![fill; GUARD + buffer + GUARD];
-    let answer = page(&account.held, month, &mut lent[GUARD..GUARD + buffer]);
+    let out = &mut lent[GUARD..GUARD + buffer];
+    // By a pointer that may write: the compiler must not take the account for unchanged.
+    // SAFETY: as of the calls in head.rs.
+    let answer = unsafe { prepay_page(&raw mut account.held, month, out.as_mut_ptr(), out.len()) };
     if lent[..GUARD].iter().chain(&lent[GUARD + buffer..]).any(|&b| b != fill) {
         return Err("bytes outside the lent buffer were written".into());
     }
@@ -159,7 +162,7 @@ pub fn page_after(text: &[u8], month: u32, fill: u8) -> Result<Vec<u8>, String> 
     while read_event(text, &mut reader, &mut event) == 0 {
         post(&mut account.held, &event);
     }
-    let (whole, bytes) = guarded_page(&account, month, PAGE_ROOM, fill)?;
+    let (whole, bytes) = guarded_page(&mut account, month, PAGE_ROOM, fill)?;
     let length = if whole.code == 0 { whole.value as usize } else { 0 };
     if length > PAGE_ROOM || bytes[length..].iter().any(|&b| b != fill) {
         return Err(format!("{whole:?} into {PAGE_ROOM} bytes: one past the page was written"));
@@ -171,7 +174,7 @@ pub fn page_after(text: &[u8], month: u32, fill: u8) -> Result<Vec<u8>, String> 
             _ => whole,
         };
         let put = if good.code == 0 { length } else { 0 };
-        let (got, got_bytes) = guarded_page(&account, month, buffer, fill)?;
+        let (got, got_bytes) = guarded_page(&mut account, month, buffer, fill)?;
         if got != good {
             return Err(format!("{whole:?} into {PAGE_ROOM} bytes, but {got:?} into {buffer}"));
         }
