@@ -95,8 +95,10 @@ fn typed(label: &str, figure: &str) -> String {
 }
 
 #[track_caller]
-fn prints(l: &Ledger, m: u32, lines: &[(&str, &str)]) {
-    let page: String = lines.iter().map(|(label, figure)| typed(label, figure)).collect();
+fn prints(l: &Ledger, m: u32, lines: &[(&str, &str)], kinds: [&str; 3], average: &str) {
+    let [three, four, five] = kinds;
+    let last = [("Kind 3", three), ("Kind 4", four), ("Kind 5", five), ("Average", average)];
+    let page: String = lines.iter().chain(&last).map(|(label, figure)| typed(label, figure)).collect();
     assert_eq!(page::page(l, m).unwrap(), page);
 }
 
@@ -107,17 +109,9 @@ fn average(l: &Ledger, m: u32) -> String {
 #[test]
 fn worked_example_page() {
     let Run::Account { ledger, .. } = run(EXAMPLE.as_bytes()) else { panic!() };
-    prints(&ledger, 0, &[
-        ("Month 2024-01", ""),
-        ("Paid 2024-01-01", "60.00"),
-        ("Paid 2024-01-06", "40.00"),
-        ("Usage 32000 Wh", "4.00"),
-        ("Kind 3", "0.00"),
-        ("Kind 4", "0.00"),
-        ("Kind 5", "0.00"),
-        ("Average", "159.38"),
-    ]);
-    prints(&ledger, 12, &[("Month 2025-01", ""), ("Usage 0 Wh", "0.00"), ("Kind 3", "0.00"), ("Kind 4", "0.00"), ("Kind 5", "0.00"), ("Average", "")]);
+    let lines = [("Month 2024-01", ""), ("Paid 2024-01-01", "60.00"), ("Paid 2024-01-06", "40.00"), ("Usage 32000 Wh", "4.00")];
+    prints(&ledger, 0, &lines, ["0.00", "0.00", "0.00"], "159.38");
+    prints(&ledger, 12, &[("Month 2025-01", ""), ("Usage 0 Wh", "0.00")], ["0.00", "0.00", "0.00"], "");
     assert_eq!(page::page(&ledger, 14), Err(3));
 }
 
@@ -141,26 +135,18 @@ fn page_of_a_month() {
     ok(&mut l, 32, Event::Estimate { usage: 0, wh: 40 });
     ok(&mut l, 60, Event::Pay { amount: 6_000 });
     ok(&mut l, 61, Event::Pay { amount: 6_100 });
-    prints(&l, 0, &[("Month 2023-12", ""), ("Paid 2023-12-31", "0.01"), ("Usage 40 Wh", "0.01"), ("Kind 3", "0.00"), ("Kind 4", "0.00"), ("Kind 5", "0.00"), ("Average", "25.00")]);
-    prints(&l, 1, &[
-        ("Month 2024-01", ""),
-        ("Paid 2024-01-01", "123.45"),
-        ("Paid 2024-01-01", "100000.00"),
-        ("Paid 2024-01-31", "0.09"),
-        ("Usage 62000 Wh", "7.75"),
-        ("Kind 3", "0.09"),
-        ("Kind 4", "0.99"),
-        ("Kind 5", "0.00"),
-        // (775 + 777) cents for 62 kWh.
-        ("Average", "25.03"),
-    ]);
-    prints(&l, 2, &[("Month 2024-02", ""), ("Paid 2024-02-29", "60.00"), ("Usage 0 Wh", "0.00"), ("Kind 3", "0.00"), ("Kind 4", "0.00"), ("Kind 5", "0.05"), ("Average", "")]);
+    prints(&l, 0, &[("Month 2023-12", ""), ("Paid 2023-12-31", "0.01"), ("Usage 40 Wh", "0.01")], ["0.00", "0.00", "0.00"], "25.00");
+    let paid = [("Paid 2024-01-01", "123.45"), ("Paid 2024-01-01", "100000.00"), ("Paid 2024-01-31", "0.09")];
+    let lines = [&[("Month 2024-01", "")], &paid[..], &[("Usage 62000 Wh", "7.75")]].concat();
+    // The average: 775 + 777 cents for 62 kWh.
+    prints(&l, 1, &lines, ["0.09", "0.99", "0.00"], "25.03");
+    prints(&l, 2, &[("Month 2024-02", ""), ("Paid 2024-02-29", "60.00"), ("Usage 0 Wh", "0.00")], ["0.00", "0.00", "0.05"], "");
     // A reversal is no event of the payment's month, and counts there.
     ok(&mut l, 399, Event::Reverse { number: 5 });
     assert_eq!(page::page(&l, 2).unwrap().len(), 438);
     // Day 399 is 2025-02-02, month 14.
     ok(&mut l, 399, Event::Pay { amount: 100 });
-    prints(&l, 14, &[("Month 2025-02", ""), ("Paid 2025-02-02", "1.00"), ("Usage 0 Wh", "0.00"), ("Kind 3", "0.00"), ("Kind 4", "0.00"), ("Kind 5", "0.00"), ("Average", "")]);
+    prints(&l, 14, &[("Month 2025-02", ""), ("Paid 2025-02-02", "1.00"), ("Usage 0 Wh", "0.00")], ["0.00", "0.00", "0.00"], "");
     for m in [15, 16, 24, 256, u32::MAX] {
         assert_eq!(page::page(&l, m), Err(3));
     }
@@ -193,10 +179,10 @@ fn page_in_a_buffer() {
     }
     let page = page::page(&l, 0).unwrap();
     assert_eq!((page.len(), page::page(&l, 1).unwrap().len()), (9_782, 438));
-    for (m, room, good) in [(0, 9_782, (0, 9_782)), (0, 9_781, (16, 0)), (0, 0, (16, 0)), (0, 9_799, (0, 9_782)), (14, 0, (3, 0)), (14, 9_782, (3, 0))] {
+    for (m, room, code, value) in [(0, 9_782, 0, 9_782), (0, 9_781, 16, 0), (0, 0, 16, 0), (0, 9_799, 0, 9_782), (14, 0, 3, 0), (14, 9_782, 3, 0)] {
         let mut out = vec![99; room];
         let answer = page::put(&l, m, &mut out);
-        assert_eq!((answer.code, answer.value), good);
+        assert_eq!(answer, Answer { code, value });
         let written = answer.value as usize;
         assert_eq!(out[..written], page.as_bytes()[..written]);
         assert!(out[written..].iter().all(|&b| b == 99));
