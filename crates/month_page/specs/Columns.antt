@@ -1,0 +1,38 @@
+-- What T-02 claims of the columns: "The columns are shown right for all line sorts together."
+use Rattle.std.specs.Prelude.{ℕ, ◌+◌, ◌-◌, ◌≤◌, ◌<◌, ◌≡◌, Bool, true, false, List, length, get_or, take, drop, Some}
+use Rattle.ledger.specs.Invariant.{All}
+use Rattle.scanner.specs.Scanner.{feed}
+use Rattle.printing.specs.Printing.{hundredths}
+use Rattle.month_page.specs.declared.Line.{Line}
+use Rattle.month_page.specs.declared.Line.TheVariants.{Month, Paid, Usage, Kind, Average}
+use Rattle.month_page.specs.Page.{label, figure, hundredths_of, line_bytes}
+
+-- A line as it is printed: byte c of it stands in column c + 1.
+pub record IsLaidOut (label figure line : List ℕ) : Type 0 where
+  -- 72 columns and a line feed
+  pub columns : length line ≡ 73
+  pub feed : get_or line 72 0 ≡ feed
+  -- the label from column 1, and the figure to column 72, within the last 14
+  pub label : take (length label) line ≡ label
+  pub figure : take (length figure) (drop (72 - length figure) line) ≡ figure
+  pub within : length figure ≤ 14
+  -- they never meet
+  pub apart : length label + 14 ≤ 72
+  -- spaces elsewhere
+  pub spaces : (c : ℕ) → length label ≤ c → c < 72 - length figure → get_or line c 0 ≡ 32
+
+abbrev pub is_average : Line → Bool
+is_average (Month year month) = false
+is_average (Paid date amount) = false
+is_average (Usage wh cost) = false
+is_average (Kind kind sum) = false
+is_average (Average average) = true
+
+-- Of a line of whatever sort; and every figure but the average stands: none is too wide.
+pub record Holds (x : Line) : Type 0 where
+  pub laid_out : IsLaidOut (label x) (figure x) (line_bytes x)
+  pub stands : (n : ℕ) → is_average x ≡ false → hundredths_of x ≡ Some n → figure x ≡ hundredths n
+
+-- of each line
+abbrev pub EachHolds : List Line → Type 0
+EachHolds xs = All Holds xs

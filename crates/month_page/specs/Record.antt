@@ -1,0 +1,47 @@
+-- The page off the account record, and what `page` promises of it.
+use Rattle.std.specs.Prelude.{ℕ, ◌≡◌, cond, not, ◌&&◌, List, [], ◌∷◌, get_or, Result}
+use Rattle.calendar.specs.declared.Date.{Date}
+use Rattle.calendar.specs.Calendar.{date_on}
+use Rattle.terms.specs.declared.Terms.{Terms}
+use Rattle.ledger.specs.declared.Event.{Event}
+use Rattle.ledger.specs.declared.Refusal.{Refusal}
+use Rattle.ledger.specs.Refusals.{answer_record}
+use Rattle.ledger.specs.Buffers.{Laid, refused}
+use Rattle.ledger.specs.Rules.{Ledger}
+use Rattle.account.specs.Record.{no_payment}
+use Rattle.account.specs.Step.{step_of}
+use Rattle.account.specs.declared.Account.{Account}
+use Rattle.refinement.specs.Lists.{IsLedgers}
+use Rattle.months.specs.Summary.{in_month_of, summary_of}
+use Rattle.moves.specs.declared.Payment.{Payment}
+use Rattle.month_page.specs.declared.Line.{Line}
+use Rattle.month_page.specs.declared.Line.TheVariants.{Paid}
+use Rattle.month_page.specs.Page.{each_line, lines_by, laid_by, ledger_page}
+use Rattle.month_page.specs.Columns.{EachHolds}
+
+-- a payment's line, where it is kept and of month m
+abbrev pub payment_line : Date → ℕ → Payment → List Line
+payment_line opened m p = cond (in_month_of opened m p.day && not p.reversed) (Paid (date_on opened p.day) p.amount ∷ []) []
+
+-- those of the first n payments
+unfoldable pub payment_lines : Date → ℕ → List Payment → ℕ → List Line
+payment_lines opened m payments n = each_line (λ (i : ℕ). payment_line opened m (get_or payments i no_payment)) n
+
+unfoldable pub lines_of : Account → ℕ → List Line
+lines_of a m = lines_by a.terms.opened m (payment_lines a.terms.opened m a.payments a.totals.count) (summary_of a m)
+
+abbrev pub page_of : Account → ℕ → List ℕ → Laid
+page_of a m buffer = laid_by (summary_of a m) (lines_of a m) buffer
+
+-- what the call leaves
+abbrev pub left : Result ℕ Refusal → List ℕ → Laid
+left r buffer = record { answer = answer_record r; buffer = buffer }
+
+-- What `page` promises of an account's month m and a lent buffer.
+pub record IsPage (a : Account) (m : ℕ) (before after : List ℕ) (r : Result ℕ Refusal) : Type 0 where
+  pub account : left r after ≡ page_of a m before
+  pub ledgers : IsLedgers a (λ t l. ledger_page t l.list m before) (left r after)
+  -- the record of which every event gets 1
+  pub none : ((e : Event) → (step_of a e).code ≡ 1) → left r after ≡ refused 1 before
+  -- of any numbers that get a page
+  pub columns : (answer_record r).code ≡ 0 → EachHolds (lines_of a m)
