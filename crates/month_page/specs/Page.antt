@@ -46,6 +46,9 @@ figure x = figure_or_none (hundredths_of x)
 abbrev pub label_columns : ℕ
 label_columns = 72 - figure_columns
 
+abbrev pub line_length : ℕ
+line_length = label_columns + figure_columns + 1
+
 unfoldable pub line_bytes : Line → List ℕ
 line_bytes x = aligned_left label_columns (label x) ++ (aligned_right figure_columns (figure x) ++ feed ∷ [])
 

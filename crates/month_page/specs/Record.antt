@@ -23,12 +23,15 @@ use Rattle.month_page.specs.Columns.{EachHolds}
 abbrev pub payment_line : Date → ℕ → Payment → List Line
 payment_line opened m p = cond (in_month_of opened m p.day && not p.reversed) (Paid (date_on opened p.day) p.amount ∷ []) []
 
--- those of the first n payments
-unfoldable pub payment_lines : Date → ℕ → List Payment → ℕ → List Line
-payment_lines opened m payments n = each_line (λ (i : ℕ). payment_line opened m (get_or payments i no_payment)) n
+-- those of the first n payments, and of all
+abbrev pub first_paid_lines : Account → ℕ → ℕ → List Line
+first_paid_lines a m n = each_line (λ (i : ℕ). payment_line a.terms.opened m (get_or a.payments i no_payment)) n
+
+abbrev pub paid_lines_of : Account → ℕ → List Line
+paid_lines_of a m = first_paid_lines a m a.totals.count
 
 unfoldable pub lines_of : Account → ℕ → List Line
-lines_of a m = lines_by a.terms.opened m (payment_lines a.terms.opened m a.payments a.totals.count) (summary_of a m)
+lines_of a m = lines_by a.terms.opened m (paid_lines_of a m) (summary_of a m)
 
 abbrev pub page_of : Account → ℕ → List ℕ → Laid
 page_of a m buffer = laid_by (summary_of a m) (lines_of a m) buffer

@@ -4,11 +4,14 @@
 // no `From` of u32.
 #![tactic(auto)]
 
-ghost use Rattle.std.specs.Prelude.{◌≡◌, ◌+◌, ◌*◌, ◌≤◌, ◌++◌, List, length, drop};
-ghost use Rattle.printing.specs.Printer.{HasRoom, Writes};
-ghost use Rattle.month_page.specs.Page.{label, figure_or_none, hundredths_of, line_bytes, lines_bytes};
-ghost use Rattle.month_page.specs.Columns.{EachHolds};
-ghost use Rattle.month_page.specs.Record.{payment_lines, IsPage};
+ghost use Rattle.std.specs.Prelude.{◌≡◌, ◌*◌, ◌≤◌, ◌<◌, ◌++◌, true, length, drop, Ok};
+ghost use Rattle.calendar.specs.Calendar.{opens, month_count};
+ghost use Rattle.ledger.specs.Rules.{max_payments};
+ghost use Rattle.ledger.specs.Refusals.{summary_record};
+ghost use Rattle.months.specs.Summary.{WithinLimits};
+ghost use Rattle.printing.specs.Printer.{HasRoom, Writes, WritesWithin};
+ghost use Rattle.month_page.specs.Page.{label, label_columns, figure_columns, line_length, figure_or_none, hundredths_of, line_bytes, lines_bytes, month_line, figure_lines};
+ghost use Rattle.month_page.specs.Record.{paid_lines_of, IsPage};
 
 use account::AsAccount;
 use calendar::Date;
@@ -54,8 +57,8 @@ fn hundredths_of(line: Line) -> Option<u64>
 }
 
 fn put_label(page: &mut Printer, line: Line)
-    requires { HasRoom page.old 58 }
-    ensures { Writes page.old (label line) page.new × (length (label line) ≤ 58) }
+    requires { HasRoom page.old label_columns }
+    ensures { WritesWithin label_columns page.old (label line) page.new }
 {
     match line {
         Line::Month { year, month } => {
@@ -78,7 +81,7 @@ fn put_label(page: &mut Printer, line: Line)
 
 // A figure, where there is one and it is not too wide: the room is that of its columns.
 fn figure_in(n: Option<u64>, out: &mut [u8]) -> usize
-    requires { length out.old ≡ 14 }
+    requires { length out.old ≡ figure_columns }
     ensures { (result ≡ length (figure_or_none n)) × (out.new ≡ figure_or_none n ++ drop result out.old) }
 {
     let mut figure = Printer { out, at: 0 };
@@ -89,7 +92,7 @@ fn figure_in(n: Option<u64>, out: &mut [u8]) -> usize
 }
 
 fn put_line(page: &mut Printer, line: Line)
-    requires { HasRoom page.old 73 }
+    requires { HasRoom page.old line_length }
     ensures { Writes page.old (line_bytes line) page.new }
 {
     let start = page.at;
@@ -100,4 +103,81 @@ fn put_line(page: &mut Printer, line: Line)
     page.put_bytes(&SPACES[..FIGURE - length]);
     page.put_bytes(&figure[..length]);
     page.put_bytes(b"\n");
+}
+
+fn put_lines(page: &mut Printer, lines: &[Line])
+    requires { HasRoom page.old (line_length * length lines.now) }
+    ensures { Writes page.old (lines_bytes lines.now) page.new }
+{
+    for line in lines {
+        put_line(page, *line);
+    }
+}
+
+// The lines of the month's kept payments, by number: of the account's first payments, so many.
+fn put_payments<A: AsAccount>(page: &mut Printer, a: &A, m: u32)
+    requires room { HasRoom page.old (line_length * length (paid_lines_of (A.account a.now) m)) }
+    requires count { (A.account a.now).totals.count ≤ max_payments }
+    ensures { Writes page.old (lines_bytes (paid_lines_of (A.account a.now) m)) page.new }
+{
+    let opened = a.terms().opened;
+    // `min` changes nothing, and spares each payment the test whether it is past the last.
+    for number in 0..a.totals().count.min(MAX_PAYMENTS) {
+        let p = a.payment(number);
+        if let Some(date) = calendar::date_of(opened, p.day) {
+            if date.month_from(opened) == u64::from(m) && !p.reversed {
+                let amount = p.amount;
+                put_line(page, Line::Paid { date, amount });
+            }
+        }
+    }
+}
+
+// The month of number m, counted from the opening month, which `is_account` bounds.
+fn month_line(opened: Date, m: u32) -> Line
+    requires { (opens opened ≡ true) × (m < month_count) }
+    ensures { result ≡ month_line opened m }
+{
+    let months = opened.month - 1 + m;
+    Line::Month {
+        year: opened.year + months / 12,
+        month: months % 12 + 1,
+    }
+}
+
+// The lines after the payments.
+fn figure_lines(figures: Figures) -> [Line; 5]
+    requires { WithinLimits (summary_record (Ok figures)) }
+    ensures { result ≡ figure_lines (summary_record (Ok figures)) }
+{
+    let [_, _, reconnection, returned, other] = figures.charges;
+    let kind = |kind: u32, sum: u64| Line::Kind { kind, sum };
+    [
+        Line::Usage {
+            wh: figures.metered.wh + figures.estimated.wh,
+            cost: figures.metered.cost + figures.estimated.cost,
+        },
+        kind(3, reconnection),
+        kind(4, returned),
+        kind(5, other),
+        Line::Average {
+            average: figures.average,
+        },
+    ]
+}
+
+// The page of month m, and how many bytes it has: refused as the month's figures are, then by 16 where the buffer is shorter.
+pub fn page<A: AsAccount>(a: &A, m: u32, out: &mut [u8]) -> Result<usize, Refusal>
+    ensures { IsPage (A.account a.now) m out.old out.new result }
+{
+    let figures = months::summary(a, m)?;
+    let length = LINE * (LINE_COUNT + figures.kept.count) as usize;
+    if out.len() < length {
+        return Err(Refusal::Buffer);
+    }
+    let mut page = Printer { out, at: 0 };
+    put_line(&mut page, month_line(a.terms().opened, m));
+    put_payments(&mut page, a, m);
+    put_lines(&mut page, &figure_lines(figures));
+    Ok(length)
 }

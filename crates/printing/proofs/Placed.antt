@@ -53,11 +53,20 @@ module _ (p : Printer) (x y : List ℕ) where
   pub neither : leb (p.at + (length x + length y)) (length p.out.now) ≡ false → Prints p (x ++ y) p
   neither f = record { same = refl; puts = puts-nothing _ _ _ (rw together at f) }
 
--- ---- the last word, the last field, and a field and what follows it: whole, and how far they reach, with `most` digits at most and `rest`
+-- ---- the last word, the last field, and a word, or a field, and what follows it: whole, and how far they reach, with `most` digits at most and `rest`
 -- bytes at most after them
 
 pub word-last : {p q : Printer} {x : List ℕ} → Prints p x q → p.at + length x ≤ length p.out.now → Writes p x q × (q.at ≤ p.at + length x)
 word-last {p} {q} {x} w h = let v : Writes p x q = printed w h in (v, omega (arith, v.wrote.next))
+
+pub word-then : {p q r : Printer} {x y : List ℕ} → Prints p x q → (rest : ℕ)
+    → (q.at + rest ≤ length q.out.now → Writes q y r × (r.at ≤ q.at + rest))
+    → p.at + (length x + rest) ≤ length p.out.now
+    → Writes p (x ++ y) r × (r.at ≤ p.at + (length x + rest))
+word-then w rest next h =
+    let f = word-last w (omega arith) in
+    let v = next (omega (arith, f.1, kept f.0.wrote)) in
+    (printed_then f.0 v.0, omega (arith, f.1, v.1))
 
 module _ {p q : Printer} (word digits : List ℕ) (most : ℕ) (few : length digits ≤ most) (w : Prints p (word ++ digits) q) where
   pub field-last : p.at + (length word + most) ≤ length p.out.now → Writes p (word ++ digits) q × (q.at ≤ p.at + (length word + most))
