@@ -1,1 +1,5 @@
 pub mod Lines
+pub mod Lays
+pub mod Payments
+pub mod Labels
+pub mod Made

@@ -3,14 +3,13 @@ use Prim.Native.Nat.{ℕ, ◌+◌, ◌-◌, ◌≤◌, ◌<◌}
 use native.Mathlib.Omega.{arith}
 use native.Mathlib.Nat.{zero-add}
 use mathlib.Core.Path.{◌≡◌, refl, sym, ap, ◌∙◌}
-use mathlib.Core.Bool.{Bool, true, false}
 use mathlib.Core.List.{List, [], ◌∷◌, ◌++◌, append_assoc}
 use lib.ListN.{length, get_or, take, drop, replicate, length-append, length-replicate, get_or-replicate, replicate-append-replicate}
 use lib.Seq.{take_at, drop_at}
 use lib.Dec.{leb}
 use borrow.Author.Tests.{leb-true}
 use Rattle.ledger.proofs.Cases.{decide}
-use Rattle.printing.specs.Printing.{hundredths, over, fits, put, place_after, Puts}
+use Rattle.printing.specs.Printing.{hundredths, fits, put, place_after, Puts}
 use Rattle.printing.proofs.Placed.{kept, printed_then, word-last, word-then, from_start}
 use Rattle.month_page.specs.Page.{figure_or_none}
 use Rattle.month_page.specs.Columns.{IsLaidOut}
@@ -99,7 +98,7 @@ pub line-written : {p q r s u v : Printer} (word digits : List ℕ) → length d
     → Writes p ((word ++ replicate (58 - length word) 32) ++ ((replicate (14 - length digits) 32 ++ digits) ++ 10 ∷ [])) v
 line-written word digits g room w a b d f =
     let more = word-then a (length (replicate (14 - length digits) 32) + (length digits + 1)) (word-then b (length digits + 1) (word-then d 1 (word-last f)))
-        (omega (arith, room, w.1, w.0.wrote.next, kept w.0.wrote, length-replicate {A = ℕ} (58 - length word) 32, length-replicate {A = ℕ} (14 - length digits) 32)) in
+    (omega (arith, room, w.1, w.0.wrote.next, kept w.0.wrote, length-replicate {A = ℕ} (58 - length word) 32, length-replicate {A = ℕ} (14 - length digits) 32)) in
     simp append_assoc (printed_then w.0 more.0)
 
 pub figure-fits : (o : Option ℕ) → length (figure_or_none o) ≤ 14
@@ -114,8 +113,8 @@ figure-put n before after r h p =
     let e : 0 + length (hundredths n) ≡ length (hundredths n) = omega arith in
     decide (leb (length (hundredths n)) 14)
     (λ y.
-      let next = simp (e, h, y) at p.next in
-      (simp y next, simp y (simp (e, h, y) at p.buffer ∙ from_start before (hundredths n) ∙ ap (λ (k : ℕ). hundredths n ++ drop k before) (sym next))))
+    let next = simp (e, h, y) at p.next in
+    (simp y next, simp y (simp (e, h, y) at p.buffer ∙ from_start before (hundredths n) ∙ ap (λ (k : ℕ). hundredths n ++ drop k before) (sym next))))
     (λ f.
-      let next = simp (e, h, f) at p.next in
-      (simp f next, simp f (simp (e, h, f) at p.buffer ∙ ap (λ (k : ℕ). drop k before) (sym next))))
+    let next = simp (e, h, f) at p.next in
+    (simp f next, simp f (simp (e, h, f) at p.buffer ∙ ap (λ (k : ℕ). drop k before) (sym next))))

@@ -27,10 +27,14 @@ is_average (Usage wh cost) = false
 is_average (Kind kind sum) = false
 is_average (Average average) = true
 
--- Of a line of whatever sort; and every figure but the average stands: none is too wide.
+-- Every figure but the average stands: none is too wide.
+abbrev pub FigureStands : Line → Type 0
+FigureStands x = (n : ℕ) → is_average x ≡ false → hundredths_of x ≡ Some n → figure x ≡ hundredths n
+
+-- Of a line of whatever sort.
 pub record Holds (x : Line) : Type 0 where
   pub laid_out : IsLaidOut (label x) (figure x) (line_bytes x)
-  pub stands : (n : ℕ) → is_average x ≡ false → hundredths_of x ≡ Some n → figure x ≡ hundredths n
+  pub stands : FigureStands x
 
 -- of each line
 abbrev pub EachHolds : List Line → Type 0

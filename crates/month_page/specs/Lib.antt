@@ -1,3 +1,4 @@
 pub mod Page
 pub mod Columns
 pub mod Record
+pub mod Work

@@ -1,5 +1,5 @@
 -- The page of a month: a definition over the ledger's month summary and payments (document 02, T-02).
-use Rattle.std.specs.Prelude.{ℕ, zero, suc, ◌+◌, ◌-◌, ◌/◌, ◌%◌, cond, not, ◌&&◌, List, [], ◌∷◌, ◌++◌, length, get_or, leb, eqb, Option, Some, None}
+use Rattle.std.specs.Prelude.{ℕ, zero, suc, ◌+◌, ◌-◌, ◌/◌, ◌%◌, cond, not, ◌&&◌, List, [], ◌∷◌, ◌++◌, length, get_or, leb, eqb, Option, Some, None, option_to_list}
 use Rattle.calendar.specs.declared.Date.{Date}
 use Rattle.calendar.specs.Calendar.{date_on}
 use Rattle.terms.specs.declared.Terms.{Terms}
@@ -63,13 +63,13 @@ abbrev pub month_line : Date → ℕ → Line
 month_line opened m = Month (opened.year + (opened.month - 1 + m) / 12) ((opened.month - 1 + m) % 12 + 1)
 
 -- the lines that f gives of numbers 0 to n - 1, in order
-unfoldable pub each_line : (ℕ → List Line) → ℕ → List Line
+unfoldable pub each_line : (ℕ → Option Line) → ℕ → List Line
 each_line f zero = []
-each_line f (suc n) = each_line f n ++ f n
+each_line f (suc n) = each_line f n ++ option_to_list (f n)
 
 -- "`Paid YYYY-MM-DD` per kept payment by number": of month m, by the payment's day
-abbrev pub paid_line : Terms → Entries → ℕ → ℕ → List Line
-paid_line t l m n = cond (in_month t m (paid_on l n) && not (reversed l n)) (Paid (date_on t.opened (paid_on l n)) (paid_amount l n) ∷ []) []
+abbrev pub paid_line : Terms → Entries → ℕ → ℕ → Option Line
+paid_line t l m n = cond (in_month t m (paid_on l n) && not (reversed l n)) (Some (Paid (date_on t.opened (paid_on l n)) (paid_amount l n))) None
 
 unfoldable pub paid_lines : Terms → Entries → ℕ → List Line
 paid_lines t l m = each_line (paid_line t l m) (payment_count l)

@@ -1,13 +1,11 @@
 -- The page off the account record, and what `page` promises of it.
-use Rattle.std.specs.Prelude.{ℕ, ◌≡◌, cond, not, ◌&&◌, List, [], ◌∷◌, get_or, Result}
+use Rattle.std.specs.Prelude.{ℕ, ◌≡◌, cond, not, ◌&&◌, List, get_or, Option, Some, None, Result}
 use Rattle.calendar.specs.declared.Date.{Date}
 use Rattle.calendar.specs.Calendar.{date_on}
-use Rattle.terms.specs.declared.Terms.{Terms}
 use Rattle.ledger.specs.declared.Event.{Event}
 use Rattle.ledger.specs.declared.Refusal.{Refusal}
 use Rattle.ledger.specs.Refusals.{answer_record}
 use Rattle.ledger.specs.Buffers.{Laid, refused}
-use Rattle.ledger.specs.Rules.{Ledger}
 use Rattle.account.specs.Record.{no_payment}
 use Rattle.account.specs.Step.{step_of}
 use Rattle.account.specs.declared.Account.{Account}
@@ -20,8 +18,8 @@ use Rattle.month_page.specs.Page.{each_line, lines_by, laid_by, ledger_page}
 use Rattle.month_page.specs.Columns.{EachHolds}
 
 -- a payment's line, where it is kept and of month m
-abbrev pub payment_line : Date → ℕ → Payment → List Line
-payment_line opened m p = cond (in_month_of opened m p.day && not p.reversed) (Paid (date_on opened p.day) p.amount ∷ []) []
+abbrev pub payment_line : Date → ℕ → Payment → Option Line
+payment_line opened m p = cond (in_month_of opened m p.day && not p.reversed) (Some (Paid (date_on opened p.day) p.amount)) None
 
 -- those of the first n payments, and of all
 abbrev pub first_paid_lines : Account → ℕ → ℕ → List Line

@@ -1,21 +1,25 @@
 // The page of a month: its figures and its payments as lines of 72 columns, laid into a lent buffer.
 // It uses the calendar, the ledger's refusals, the account, the month's figures and the printing, and in its definitions the terms, the scanner's
-// words and the refinement. Its promises cite specs/Page.antt, specs/Columns.antt and specs/Record.antt. A length is cast by `as`, since usize has
+// words and the refinement. Its promises cite specs/Page.antt, specs/Columns.antt and specs/Record.antt, and inside the
+// crate specs/Work.antt. A length is cast by `as`, since usize has
 // no `From` of u32.
 #![tactic(auto)]
 
-ghost use Rattle.std.specs.Prelude.{◌≡◌, ◌*◌, ◌≤◌, ◌<◌, ◌++◌, true, length, drop, Ok};
+ghost use Rattle.std.specs.Prelude.{◌≡◌, ◌*◌, ◌≤◌, ◌<◌, ◌++◌, true, [], ◌∷◌, length, drop, IfSome, Ok};
 ghost use Rattle.calendar.specs.Calendar.{opens, month_count};
 ghost use Rattle.ledger.specs.Rules.{max_payments};
 ghost use Rattle.ledger.specs.Refusals.{summary_record};
 ghost use Rattle.months.specs.Summary.{WithinLimits};
-ghost use Rattle.printing.specs.Printer.{HasRoom, Writes, WritesWithin};
-ghost use Rattle.month_page.specs.Page.{label, label_columns, figure_columns, line_length, figure_or_none, hundredths_of, line_bytes, lines_bytes, month_line, figure_lines};
-ghost use Rattle.month_page.specs.Record.{paid_lines_of, IsPage};
+ghost use Rattle.printing.specs.Printer.{HasRoom, WritesWithin};
+ghost use Rattle.month_page.specs.Page.{label, label_columns, figure_columns, line_length, figure_or_none, hundredths_of, month_line, figure_lines};
+ghost use Rattle.month_page.specs.Columns.{FigureStands};
+ghost use Rattle.month_page.specs.Work.{FiguresStand, Lays};
+ghost use Rattle.month_page.specs.Record.{payment_line, paid_lines_of, IsPage};
 
 use account::AsAccount;
 use calendar::Date;
 use ledger::{Figures, MAX_PAYMENTS, Refusal};
+use moves::Payment;
 use printing::Printer;
 
 // The columns of a figure, those before it, and the bytes of a line.
@@ -92,12 +96,12 @@ fn figure_in(n: Option<u64>, out: &mut [u8]) -> usize
 }
 
 fn put_line(page: &mut Printer, line: Line)
-    requires { HasRoom page.old line_length }
-    ensures { Writes page.old (line_bytes line) page.new }
+    requires { HasRoom page.old line_length × FigureStands line }
+    ensures { Lays page.old (line ∷ []) page.new }
 {
     let start = page.at;
     put_label(page, line);
-    page.put_bytes(&SPACES[page.at - start..]);
+    page.put_bytes(&SPACES[..start + LABEL - page.at]);
     let mut figure = [0u8; FIGURE];
     let length = figure_in(hundredths_of(line), &mut figure);
     page.put_bytes(&SPACES[..FIGURE - length]);
@@ -106,29 +110,39 @@ fn put_line(page: &mut Printer, line: Line)
 }
 
 fn put_lines(page: &mut Printer, lines: &[Line])
-    requires { HasRoom page.old (line_length * length lines.now) }
-    ensures { Writes page.old (lines_bytes lines.now) page.new }
+    requires { HasRoom page.old (line_length * length lines.now) × FiguresStand lines.now }
+    ensures { Lays page.old lines.now page.new }
 {
     for line in lines {
         put_line(page, *line);
     }
 }
 
-// The lines of the month's kept payments, by number: of the account's first payments, so many.
+// A payment's line, where it is kept and of month m.
+#[tactic(auto, unfolding(months::specs::Summary::in_month_of))]
+fn payment_line(opened: Date, m: u32, p: Payment) -> Option<Line>
+    ensures line { result ≡ payment_line opened m p }
+    ensures stands { IfSome result FigureStands }
+{
+    let date = calendar::date_of(opened, p.day)?;
+    let is_kept = date.month_from(opened) == u64::from(m) && !p.reversed;
+    is_kept.then_some(Line::Paid {
+        date,
+        amount: p.amount,
+    })
+}
+
+// The lines of the month's kept payments, by number.
 fn put_payments<A: AsAccount>(page: &mut Printer, a: &A, m: u32)
     requires room { HasRoom page.old (line_length * length (paid_lines_of (A.account a.now) m)) }
     requires count { (A.account a.now).totals.count ≤ max_payments }
-    ensures { Writes page.old (lines_bytes (paid_lines_of (A.account a.now) m)) page.new }
+    ensures { Lays page.old (paid_lines_of (A.account a.now) m) page.new }
 {
     let opened = a.terms().opened;
     // `min` changes nothing, and spares each payment the test whether it is past the last.
     for number in 0..a.totals().count.min(MAX_PAYMENTS) {
-        let p = a.payment(number);
-        if let Some(date) = calendar::date_of(opened, p.day) {
-            if date.month_from(opened) == u64::from(m) && !p.reversed {
-                let amount = p.amount;
-                put_line(page, Line::Paid { date, amount });
-            }
+        if let Some(line) = payment_line(opened, m, a.payment(number)) {
+            put_line(page, line);
         }
     }
 }
@@ -148,18 +162,27 @@ fn month_line(opened: Date, m: u32) -> Line
 // The lines after the payments.
 fn figure_lines(figures: Figures) -> [Line; 5]
     requires { WithinLimits (summary_record (Ok figures)) }
-    ensures { result ≡ figure_lines (summary_record (Ok figures)) }
+    ensures lines { result ≡ figure_lines (summary_record (Ok figures)) }
+    ensures stand { FiguresStand result }
 {
     let [_, _, reconnection, returned, other] = figures.charges;
-    let kind = |kind: u32, sum: u64| Line::Kind { kind, sum };
     [
         Line::Usage {
             wh: figures.metered.wh + figures.estimated.wh,
             cost: figures.metered.cost + figures.estimated.cost,
         },
-        kind(3, reconnection),
-        kind(4, returned),
-        kind(5, other),
+        Line::Kind {
+            kind: 3,
+            sum: reconnection,
+        },
+        Line::Kind {
+            kind: 4,
+            sum: returned,
+        },
+        Line::Kind {
+            kind: 5,
+            sum: other,
+        },
         Line::Average {
             average: figures.average,
         },

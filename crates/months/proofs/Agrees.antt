@@ -36,7 +36,7 @@ use Rattle.calendar.proofs.Sums.{any_none, any_same}
 use Rattle.months.proofs.Sums.{total-same}
 use Rattle.months.proofs.Numbers.{by_number, Dated, dated-after}
 
-valid-opens : (t : Terms) → valid_terms t ≡ true → opens t.opened ≡ true
+pub valid-opens : (t : Terms) → valid_terms t ≡ true → opens t.opened ≡ true
 unfolding valid_terms
 valid-opens t v = (and_parts (opens t.opened) _ v).0
 
@@ -47,7 +47,7 @@ state-is (metered wh cost) = refl
 
 module _ (t : Terms) (m : ℕ) (o : opens t.opened ≡ true) where
   -- the same days
-  in-month : (k : ℕ) → k ≤ 399 → in_month_of t.opened m k ≡ in_month t m k
+  pub in-month : (k : ℕ) → k ≤ 399 → in_month_of t.opened m k ≡ in_month t m k
   unfolding in_month_of
   in-month k h = simp (o, le-leb k 399 h)
 

@@ -28,7 +28,7 @@ outside r k n = decide (leb r.start k)
     (λ y. decide (ltb k r.end) (λ z. absurd (n (leb-true r.start k y) (ltb-true k r.end z))) (λ f. simp (f, and-false)))
     (λ f. simp f)
 
-never : (o : Date) (m : ℕ) → ((k : ℕ) → is_day o k ≡ true → month_from o (date_on o k) ≡ m → ⊥) → (k : ℕ) → in_month_of o m k ≡ false
+pub never : (o : Date) (m : ℕ) → ((k : ℕ) → is_day o k ≡ true → month_from o (date_on o k) ≡ m → ⊥) → (k : ℕ) → in_month_of o m k ≡ false
 unfolding in_month_of
 never o m n k = decide (is_day o k) (λ d. simp (d, ne_eqb (month_from o (date_on o k)) m (n k d))) (λ f. simp f)
 

@@ -10,7 +10,7 @@ pub returns : goal.returns
 returns c =
     -- the buffer that is left is the printer's
     let left : List ℕ → Type 0 = λ l.
-        (c.match-n.figure.at ≡ length (figure_or_none c.args.n)) × (l ≡ figure_or_none c.args.n ++ drop c.match-n.figure.at c.args.out.now) in
+    (c.match-n.figure.at ≡ length (figure_or_none c.args.n)) × (l ≡ figure_or_none c.args.n ++ drop c.match-n.figure.at c.args.out.now) in
     elim c.match-n.branch [
       | in-Some w ↦
           let v : Prints _ _ c.match-n.figure = rw (sym w.figure-is) at w.put_hundredths.ensures in

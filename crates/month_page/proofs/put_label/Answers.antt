@@ -1,6 +1,6 @@
 use Rattle.std.proofs.Common.{arith, rules}
 use Rattle.scanner.specs.Scanner.{bytes}
-use Rattle.printing.specs.Printing.{decimal, two_digits}
+use Rattle.printing.specs.Printing.{decimal}
 use Rattle.printing.proofs.Digits.{length-decimal}
 use Rattle.printing.proofs.Placed.{word-last, word-then, field-last, field-then}
 use Rattle.month_page.specs.Page.{label}
