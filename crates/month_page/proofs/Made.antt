@@ -5,10 +5,9 @@ use mathlib.Core.Path.{◌≡◌, refl, sym, ap, ◌∙◌}
 use mathlib.Core.Bool.{true, true≢false}
 use mathlib.Core.List.{List, ◌++◌}
 use lib.ListN.{length, drop, length-append}
-use lib.Dec.{leb, eqb}
-use borrow.Author.Tests.{lt-ltb, le-ltb, leb-true, leb-false, ne_eqb}
-use Rattle.std.specs.Prelude.{Option, Result, Ok, Err}
-use Rattle.std.proofs.lemmas.Bool.{cond-false}
+use lib.Dec.{leb}
+use borrow.Author.Tests.{lt-ltb, le-ltb, leb-true, leb-false}
+use Rattle.std.specs.Prelude.{Option, Ok}
 use Rattle.std.proofs.lemmas.Bool.Decides.{nat_tests}
 use Rattle.calendar.specs.Calendar.{opens}
 use Rattle.calendar.specs.Days.{any_day}
@@ -16,17 +15,16 @@ use Rattle.calendar.proofs.Laws.{month-limit}
 use Rattle.calendar.proofs.Sums.{any_none}
 use Rattle.terms.specs.Terms.{valid_terms, terms_code}
 use Rattle.terms.specs.declared.Terms.{Terms}
+use Rattle.ledger.specs.declared.Answer.{Answer}
 use Rattle.ledger.specs.declared.Event.{Event}
 use Rattle.ledger.specs.declared.Figures.{Figures}
 use Rattle.ledger.specs.declared.Summary.{Summary}
-use Rattle.ledger.specs.declared.Refusal.{Refusal}
-use Rattle.ledger.specs.declared.Refusal.TheVariants as refusal
 use Rattle.ledger.specs.Entries.{payment_count, paid_on}
-use Rattle.ledger.specs.Ledger.{ledger_of}
+use Rattle.ledger.specs.Ledger.{answer, ledger_of}
 use Rattle.ledger.specs.Months.{ledger_summary}
-use Rattle.ledger.specs.Refusals.{refusal_code, answer_record, summary_record}
+use Rattle.ledger.specs.Refusals.{summary_record}
 use Rattle.ledger.specs.Buffers.{refused, laid}
-use Rattle.ledger.proofs.Cases.{decide, positive}
+use Rattle.ledger.proofs.Cases.{decide}
 use Rattle.moves.specs.Moves.{is_account}
 use Rattle.moves.proofs.Early.{in_reach}
 use Rattle.account.specs.declared.Account.{Account}
@@ -78,21 +76,14 @@ module _ (a : Account) (m : ℕ) where
   by_summary : {s : Summary} → summary_of a m ≡ s → (before : List ℕ) → page_of a m before ≡ laid_by s (lines_of a m) before
   by_summary e before = λ i. laid_by (e i) (lines_of a m) before
 
-  promised : (s : Summary) → IsSummary a m s → (before after : List ℕ) (r : Result ℕ Refusal) → left r after ≡ page_of a m before
-      → ((answer_record r).code ≡ 0 → EachHolds (lines_of a m)) → IsPage a m before after r
+  promised : (s : Summary) → IsSummary a m s → (before after : List ℕ) (r : Answer) → left r after ≡ page_of a m before
+      → (r.code ≡ 0 → EachHolds (lines_of a m)) → IsPage a m before after r
   promised s i before after r e columns = record {
     account = e;
     ledgers = λ t es h. e ∙ page-made a m before t es h;
     none = λ h. e ∙ by_summary (sym i.account ∙ i.none h) before;
     columns = columns;
   }
-
-  -- refused as the month's figures are
-  pub refused-page : (r : Refusal) → IsSummary a m (summary_record (Err r)) → (before : List ℕ) → IsPage a m before before (Err r)
-  refused-page r i before =
-      let not-0 = ne_eqb (refusal_code r) 0 (λ z. omega (arith, positive r, z)) in
-      promised (summary_record (Err r)) i before before (Err r) (sym (by_summary (sym i.account) before ∙ cond-false (eqb (refusal_code r) 0) _ _ not-0))
-      (λ z. absurd (omega (arith, positive r, z)))
 
   -- ---- a month that has figures
 
@@ -156,16 +147,16 @@ module _ (a : Account) (m : ℕ) where
           length-lines (lines_of a m) (lines-narrow a m (summary_of a m) opens-is month-small (rw i.account at i.limits)),
         )
 
-    pub short-page : (before : List ℕ) → length before < 73 * (6 + f.kept.count) → IsPage a m before before (Err refusal.Buffer)
+    pub short-page : (before : List ℕ) → length before < 73 * (6 + f.kept.count) → IsPage a m before before (answer 16 0)
     short-page before h =
-        promised (summary_record (Ok f)) i before before (Err refusal.Buffer)
+        promised (summary_record (Ok f)) i before before (answer 16 0)
         (sym (by_summary (sym i.account) before ∙ laid-short (lines_bytes (lines_of a m)) before (omega (arith, h, bytes))))
         (λ z. absurd (omega (arith, z)))
 
     pub whole-page : (before after : List ℕ) → 73 * (6 + f.kept.count) ≤ length before → after ≡ over before 0 (lines_bytes (lines_of a m)) → EachHolds (lines_of a m)
-        → IsPage a m before after (Ok (73 * (6 + f.kept.count)))
+        → IsPage a m before after (answer 0 (73 * (6 + f.kept.count)))
     whole-page before after h e holds =
-        promised (summary_record (Ok f)) i before after (Ok (73 * (6 + f.kept.count)))
+        promised (summary_record (Ok f)) i before after (answer 0 (73 * (6 + f.kept.count)))
         (sym (by_summary (sym i.account) before
         ∙ laid-whole (lines_bytes (lines_of a m)) before (omega (arith, h, bytes))
         ∙ (λ j. record { answer = record { code = 0; value = bytes j }; buffer = (sym (e ∙ from_start before (lines_bytes (lines_of a m)))) j })))

@@ -1,10 +1,9 @@
 -- The page off the account record, and what `page` promises of it.
-use Rattle.std.specs.Prelude.{ℕ, ◌≡◌, cond, not, ◌&&◌, List, get_or, Option, Some, None, Result}
+use Rattle.std.specs.Prelude.{ℕ, ◌≡◌, cond, not, ◌&&◌, List, get_or, Option, Some, None}
 use Rattle.calendar.specs.declared.Date.{Date}
 use Rattle.calendar.specs.Calendar.{date_on}
+use Rattle.ledger.specs.declared.Answer.{Answer}
 use Rattle.ledger.specs.declared.Event.{Event}
-use Rattle.ledger.specs.declared.Refusal.{Refusal}
-use Rattle.ledger.specs.Refusals.{answer_record}
 use Rattle.ledger.specs.Buffers.{Laid, refused}
 use Rattle.account.specs.Record.{no_payment}
 use Rattle.account.specs.Step.{step_of}
@@ -35,14 +34,14 @@ abbrev pub page_of : Account → ℕ → List ℕ → Laid
 page_of a m buffer = laid_by (summary_of a m) (lines_of a m) buffer
 
 -- what the call leaves
-abbrev pub left : Result ℕ Refusal → List ℕ → Laid
-left r buffer = record { answer = answer_record r; buffer = buffer }
+abbrev pub left : Answer → List ℕ → Laid
+left r buffer = record { answer = r; buffer = buffer }
 
 -- What `page` promises of an account's month m and a lent buffer.
-pub record IsPage (a : Account) (m : ℕ) (before after : List ℕ) (r : Result ℕ Refusal) : Type 0 where
+pub record IsPage (a : Account) (m : ℕ) (before after : List ℕ) (r : Answer) : Type 0 where
   pub account : left r after ≡ page_of a m before
   pub ledgers : IsLedgers a (λ t l. ledger_page t l.list m before) (left r after)
   -- the record of which every event gets 1
   pub none : ((e : Event) → (step_of a e).code ≡ 1) → left r after ≡ refused 1 before
   -- of any numbers that get a page
-  pub columns : (answer_record r).code ≡ 0 → EachHolds (lines_of a m)
+  pub columns : r.code ≡ 0 → EachHolds (lines_of a m)

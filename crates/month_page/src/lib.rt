@@ -8,7 +8,7 @@
 ghost use Rattle.std.specs.Prelude.{◌≡◌, ◌*◌, ◌≤◌, ◌<◌, ◌++◌, true, [], ◌∷◌, length, drop, IfSome, Ok};
 ghost use Rattle.calendar.specs.Calendar.{opens, month_count};
 ghost use Rattle.ledger.specs.Rules.{max_payments};
-ghost use Rattle.ledger.specs.Refusals.{summary_record};
+ghost use Rattle.ledger.specs.Refusals.{answer_record, summary_record};
 ghost use Rattle.months.specs.Summary.{WithinLimits};
 ghost use Rattle.printing.specs.Printer.{HasRoom, WritesWithin};
 ghost use Rattle.month_page.specs.Page.{label, label_columns, figure_columns, line_length, figure_or_none, hundredths_of, month_line, figure_lines};
@@ -191,7 +191,7 @@ fn figure_lines(figures: Figures) -> [Line; 5]
 
 // The page of month m, and how many bytes it has: refused as the month's figures are, then by 16 where the buffer is shorter.
 pub fn page<A: AsAccount>(a: &A, m: u32, out: &mut [u8]) -> Result<usize, Refusal>
-    ensures { IsPage (A.account a.now) m out.old out.new result }
+    ensures { IsPage (A.account a.now) m out.old out.new (answer_record result) }
 {
     let figures = months::summary(a, m)?;
     let length = LINE * (LINE_COUNT + figures.kept.count) as usize;

@@ -1,5 +1,6 @@
 use Rattle.std.proofs.Common.{ℕ, List, ◌*◌, ◌+◌, ◌≡◌, length, Ok, rules, subst, sym, ap, ◌∙◌, arith}
 use Rattle.terms.specs.declared.Terms.{Terms}
+use Rattle.ledger.specs.Ledger.{answer}
 use Rattle.ledger.specs.Refusals.{summary_record}
 use Rattle.months.specs.Summary.{IsSummary}
 use Rattle.printing.proofs.Placed.{kept}
@@ -61,7 +62,7 @@ returns g c =
     let i : IsSummary a m (summary_record (Ok f)) = c.in_ok-figures.ensures in
     let size = 73 * (6 + f.kept.count) in
     -- the buffer that is left is the printer's
-    let left : List ℕ → Type 0 = λ l. IsPage a m c.args.out.now l (Ok size) in
+    let left : List ℕ → Type 0 = λ l. IsPage a m c.args.out.now l (answer 0 size) in
     let month : c.month_line.result ≡ month_line a.terms.opened m = c.month_line.ensures ∙ ap (λ (t : Terms). month_line t.opened m) c.terms.ensures in
     let laid = rw (month, c.figure_lines.ensures.lines) at (lays_then c.put_line.ensures (lays_then c.put_payments.ensures c.put_lines.ensures)) in
     let all = lays_as (lines-are a m f i) laid in
