@@ -1,12 +1,13 @@
 // The C interface of the account software (include/head.h): one account in the caller's memory, opened, posted to and read in place; an event
 // text, read event by event, or printed whole. Codes are numbers there, and no struct has a byte that is in no field.
-// It uses the terms, the ledger's event and answers, the account's numbers, the reading calls and the month's figures. Its promises cite
+// It uses the terms, the ledger's event and answers, the account's numbers, the reading calls, the month's figures and page. Its promises cite
 // specs/Interface.antt, and those of the calls that it hands on.
 #![tactic(auto)]
 
 ghost use Rattle.std.specs.Prelude.{◌≡◌};
 ghost use Rattle.ledger.specs.Refusals.{answer_record, summary_record};
-ghost use Rattle.numbers.specs.Numbers.{OpensIn, PostsIn, PostsRowIn};
+ghost use Rattle.numbers.specs.Numbers.{account_in, OpensIn, PostsIn, PostsRowIn};
+ghost use Rattle.month_page.specs.Record.{IsPage};
 ghost use Rattle.head.specs.Interface.{answer_in, figure_numbers, ReadsIn, SummaryIn};
 
 use account::AsAccount;
@@ -89,9 +90,9 @@ impl From<Summary> for FigureNumbers {
 // The version of this interface: another number where a call, a struct or the meaning of an account's numbers is another.
 #[unsafe(no_mangle)]
 pub extern "C" fn prepay_version() -> u32
-    ensures { result ≡ 3 }
+    ensures { result ≡ 4 }
 {
-    3
+    4
 }
 
 // A fresh account. Where the terms are outside their limits the answer is 1, and nothing is written.
@@ -139,4 +140,14 @@ pub extern "C" fn prepay_summary(account: &Numbers, month: u32) -> FigureNumbers
     ensures { SummaryIn account.now month result }
 {
     FigureNumbers::from(Summary::from(months::summary(account, month)))
+}
+
+// A month's page, laid into a lent buffer.
+#[unsafe(no_mangle)]
+pub extern "C" fn prepay_page(account: &Numbers, month: u32, out: &mut [u8]) -> AnswerNumbers
+    ensures { IsPage (account_in account.now) month out.old out.new (answer_in result) }
+{
+    // a length is an u64: usize has no `From` into it
+    let page = month_page::page(account, month, out);
+    AnswerNumbers::from(page.map(|length| length as u64))
 }

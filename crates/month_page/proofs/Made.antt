@@ -5,9 +5,10 @@ use mathlib.Core.Path.{◌≡◌, refl, sym, ap, ◌∙◌}
 use mathlib.Core.Bool.{true, true≢false}
 use mathlib.Core.List.{List, ◌++◌}
 use lib.ListN.{length, drop, length-append}
-use lib.Dec.{leb}
-use borrow.Author.Tests.{lt-ltb, le-ltb, leb-true, leb-false}
-use Rattle.std.specs.Prelude.{Option, Ok}
+use lib.Dec.{leb, eqb}
+use borrow.Author.Tests.{lt-ltb, le-ltb, leb-true, leb-false, ne_eqb}
+use Rattle.std.specs.Prelude.{Option, Result, Ok, Err}
+use Rattle.std.proofs.lemmas.Bool.{cond-false}
 use Rattle.std.proofs.lemmas.Bool.Decides.{nat_tests}
 use Rattle.calendar.specs.Calendar.{opens}
 use Rattle.calendar.specs.Days.{any_day}
@@ -22,9 +23,10 @@ use Rattle.ledger.specs.declared.Summary.{Summary}
 use Rattle.ledger.specs.Entries.{payment_count, paid_on}
 use Rattle.ledger.specs.Ledger.{answer, ledger_of}
 use Rattle.ledger.specs.Months.{ledger_summary}
-use Rattle.ledger.specs.Refusals.{summary_record}
+use Rattle.ledger.specs.declared.Refusal.{Refusal}
+use Rattle.ledger.specs.Refusals.{refusal_code, answer_record, summary_record}
 use Rattle.ledger.specs.Buffers.{refused, laid}
-use Rattle.ledger.proofs.Cases.{decide}
+use Rattle.ledger.proofs.Cases.{decide, positive}
 use Rattle.moves.specs.Moves.{is_account}
 use Rattle.moves.proofs.Early.{in_reach}
 use Rattle.account.specs.declared.Account.{Account}
@@ -77,13 +79,32 @@ module _ (a : Account) (m : ℕ) where
   by_summary e before = λ i. laid_by (e i) (lines_of a m) before
 
   promised : (s : Summary) → IsSummary a m s → (before after : List ℕ) (r : Answer) → left r after ≡ page_of a m before
-      → (r.code ≡ 0 → EachHolds (lines_of a m)) → IsPage a m before after r
-  promised s i before after r e columns = record {
+      → (r.code ≡ 16 → length before < 9782) → (r.code ≡ 0 → EachHolds (lines_of a m)) → IsPage a m before after r
+  promised s i before after r e room columns = record {
     account = e;
     ledgers = λ t es h. e ∙ page-made a m before t es h;
     none = λ h. e ∙ by_summary (sym i.account ∙ i.none h) before;
+    room = room;
     columns = columns;
   }
+
+  -- the month's figures are refused by 1 or 3 alone
+  code-low : (summary_of a m).code ≤ 3
+  unfolding summary_by
+  code-low = decide (is_account a.terms a.totals)
+      (λ y. decide (any_day (in_month_of a.terms.opened m) 400)
+      (λ d. decide (are_in_range (charges_of a.charges m)) (λ r. simp (y, d, r) (omega arith)) (λ f. simp (y, d, f) (omega arith)))
+      (λ f. simp (y, f) (omega arith)))
+      (λ f. simp f (omega arith))
+
+  pub refused-page : (r : Refusal) (q : Result ℕ Refusal) → q ≡ Err r → IsSummary a m (summary_record (Err r)) → (before : List ℕ)
+      → IsPage a m before before (answer_record q)
+  refused-page r q e i before =
+      let not-0 = ne_eqb (refusal_code r) 0 (λ z. omega (arith, positive r, z)) in
+      let low : refusal_code r ≤ 3 = rw (sym i.account) at code-low in
+      rw e (promised (summary_record (Err r)) i before before (answer (refusal_code r) 0)
+      (sym (by_summary (sym i.account) before ∙ cond-false (eqb (refusal_code r) 0) _ _ not-0))
+      (λ z. absurd (omega (arith, low, z))) (λ z. absurd (omega (arith, positive r, z))))
 
   -- ---- a month that has figures
 
@@ -151,7 +172,7 @@ module _ (a : Account) (m : ℕ) where
     short-page before h =
         promised (summary_record (Ok f)) i before before (answer 16 0)
         (sym (by_summary (sym i.account) before ∙ laid-short (lines_bytes (lines_of a m)) before (omega (arith, h, bytes))))
-        (λ z. absurd (omega (arith, z)))
+        (λ z. omega (arith, h, few)) (λ z. absurd (omega (arith, z)))
 
     pub whole-page : (before after : List ℕ) → 73 * (6 + f.kept.count) ≤ length before → after ≡ over before 0 (lines_bytes (lines_of a m)) → EachHolds (lines_of a m)
         → IsPage a m before after (answer 0 (73 * (6 + f.kept.count)))
@@ -160,4 +181,4 @@ module _ (a : Account) (m : ℕ) where
         (sym (by_summary (sym i.account) before
         ∙ laid-whole (lines_bytes (lines_of a m)) before (omega (arith, h, bytes))
         ∙ (λ j. record { answer = record { code = 0; value = bytes j }; buffer = (sym (e ∙ from_start before (lines_bytes (lines_of a m)))) j })))
-        (λ z. holds)
+        (λ z. absurd (omega (arith, z))) (λ z. holds)

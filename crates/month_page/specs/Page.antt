@@ -1,11 +1,12 @@
 -- The page of a month: a definition over the ledger's month summary and payments (document 02, T-02).
-use Rattle.std.specs.Prelude.{ℕ, zero, suc, ◌+◌, ◌-◌, ◌/◌, ◌%◌, cond, not, ◌&&◌, List, [], ◌∷◌, ◌++◌, length, get_or, leb, eqb, Option, Some, None, option_to_list}
+use Rattle.std.specs.Prelude.{ℕ, zero, suc, ◌+◌, ◌*◌, ◌-◌, ◌/◌, ◌%◌, cond, not, ◌&&◌, List, [], ◌∷◌, ◌++◌, length, get_or, leb, eqb, Option, Some, None, option_to_list}
 use Rattle.calendar.specs.declared.Date.{Date}
 use Rattle.calendar.specs.Calendar.{date_on}
 use Rattle.terms.specs.declared.Terms.{Terms}
 use Rattle.ledger.specs.declared.Summary.{Summary}
 use Rattle.ledger.specs.Entries.{Entries, payment_count, paid_on, paid_amount, reversed}
 use Rattle.ledger.specs.Months.{in_month, ledger_summary}
+use Rattle.ledger.specs.Rules.{max_payments}
 use Rattle.ledger.specs.Buffers.{Laid, refused, laid}
 use Rattle.scanner.specs.Scanner.{bytes, feed}
 use Rattle.printing.specs.Printing.{decimal, two_digits, hundredths, aligned_left, aligned_right}
@@ -98,3 +99,7 @@ laid_by s lines buffer = cond (eqb s.code 0) (laid (lines_bytes lines) buffer) (
 
 abbrev pub ledger_page : Terms → Entries → ℕ → List ℕ → Laid
 ledger_page t l m buffer = laid_by (ledger_summary t l m) (page_lines t l m) buffer
+
+-- Six lines and one for each payment at the most: a buffer that holds any page.
+abbrev pub page_room : ℕ
+page_room = line_length * (6 + max_payments)

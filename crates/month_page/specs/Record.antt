@@ -1,5 +1,5 @@
 -- The page off the account record, and what `page` promises of it.
-use Rattle.std.specs.Prelude.{ℕ, ◌≡◌, cond, not, ◌&&◌, List, get_or, Option, Some, None}
+use Rattle.std.specs.Prelude.{ℕ, ◌<◌, ◌≡◌, cond, not, ◌&&◌, List, length, get_or, Option, Some, None}
 use Rattle.calendar.specs.declared.Date.{Date}
 use Rattle.calendar.specs.Calendar.{date_on}
 use Rattle.ledger.specs.declared.Answer.{Answer}
@@ -13,7 +13,7 @@ use Rattle.months.specs.Summary.{in_month_of, summary_of}
 use Rattle.moves.specs.declared.Payment.{Payment}
 use Rattle.month_page.specs.declared.Line.{Line}
 use Rattle.month_page.specs.declared.Line.TheVariants.{Paid}
-use Rattle.month_page.specs.Page.{each_line, lines_by, laid_by, ledger_page}
+use Rattle.month_page.specs.Page.{page_room, each_line, lines_by, laid_by, ledger_page}
 use Rattle.month_page.specs.Columns.{EachHolds}
 
 -- a payment's line, where it is kept and of month m
@@ -43,5 +43,7 @@ pub record IsPage (a : Account) (m : ℕ) (before after : List ℕ) (r : Answer)
   pub ledgers : IsLedgers a (λ t l. ledger_page t l.list m before) (left r after)
   -- the record of which every event gets 1
   pub none : ((e : Event) → (step_of a e).code ≡ 1) → left r after ≡ refused 1 before
+  -- `page_room` holds any page
+  pub room : r.code ≡ 16 → length before < page_room
   -- of any numbers that get a page
   pub columns : r.code ≡ 0 → EachHolds (lines_of a m)

@@ -8,11 +8,15 @@ use Rattle.month_page.specs.declared.Line.{Line}
 use Rattle.month_page.specs.Page.{month_line}
 use Rattle.month_page.specs.Record.{IsPage}
 use Rattle.month_page.proofs.Lays.{lays_as, lays_then, lays-end}
-use Rattle.month_page.proofs.Made.{opens-is, month-small, all-few, count, few, lines-are, short-page, whole-page}
+use Rattle.month_page.proofs.Made.{opens-is, month-small, all-few, count, few, lines-are, refused-page, short-page, whole-page}
 use Rattle.month_page.proofs.page.Goals as goal
 
 pub overflow_add-length : goal.overflow_add-length
 overflow_add-length g c = omega (arith, few (g.A.AsAccount.account c.args.a.now) c.args.m c.in_ok-figures.figures c.in_ok-figures.ensures)
+
+pub returns-in_err-figures : goal.returns-in_err-figures
+returns-in_err-figures g c =
+    refused-page (g.A.AsAccount.account c.args.a.now) c.args.m c.in_err-figures.field-0.0 c.from_residual.result (search rules) c.in_err-figures.ensures c.args.out.now
 
 pub returns-then-out-length : goal.returns-then-out-length
 returns-then-out-length g c =
