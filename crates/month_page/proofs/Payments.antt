@@ -3,13 +3,12 @@ use Prim.Native.Nat.{ℕ, zero, suc, ◌+◌, ◌≤◌, ◌<◌, ◌^◌}
 use native.Mathlib.Numerals.{add-one}
 use native.Mathlib.Omega.{arith}
 use mathlib.Core.Path.{◌≡◌, refl, ap}
-use mathlib.Core.Bool.{Bool, true, false, not, ◌&&◌}
+use mathlib.Core.Bool.{not, ◌&&◌}
 use mathlib.Core.List.{[], ◌∷◌, ◌++◌}
 use lib.ListN.{length, get_or, length-append}
 use lib.Dec.{leb}
 use borrow.Author.Tests.{leb-true, leb-false}
-use Rattle.core.specs.Bool.{then_some}
-use Rattle.std.specs.Prelude.{Option, Some, IfSome, option_to_list}
+use Rattle.std.specs.Prelude.{Option, Some, option_to_list}
 use Rattle.calendar.specs.declared.Date.{Date}
 use Rattle.calendar.specs.Calendar.{total}
 use Rattle.ledger.specs.Refusals.{average_or_0}
@@ -38,9 +37,8 @@ each-mono f k (suc n) h = decide (leb k n)
     (λ y. let e : k ≡ suc n = omega (arith, h, leb-false k n y) in rw e (omega arith))
 
 -- a payment's figure stands
-pub paid-stands : (b : Bool) (d : Date) (amount : ℕ) → amount < 2 ^ 32 → IfSome (then_some b (Paid d amount)) FigureStands
-paid-stands true d amount h = stands (Paid d amount) (λ n e. omega (arith, h, ap average_or_0 e))
-paid-stands false d amount h = tt
+pub paid-stands : (d : Date) (amount : ℕ) → amount < 2 ^ 32 → FigureStands (Paid d amount)
+paid-stands d amount h = stands (Paid d amount) (λ n e. omega (arith, h, ap average_or_0 e))
 
 pub length-each : (a : Account) (m n : ℕ) → length (first_paid_lines a m n) ≤ n
 unfolding each_line

@@ -126,10 +126,12 @@ fn payment_line(opened: Date, m: u32, p: Payment) -> Option<Line>
 {
     let date = calendar::date_of(opened, p.day)?;
     let is_kept = date.month_from(opened) == u64::from(m) && !p.reversed;
-    is_kept.then_some(Line::Paid {
-        date,
-        amount: p.amount,
-    })
+    if is_kept {
+        let amount = p.amount;
+        Some(Line::Paid { date, amount })
+    } else {
+        None
+    }
 }
 
 // The lines of the month's kept payments, by number.

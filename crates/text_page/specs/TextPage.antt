@@ -34,6 +34,6 @@ abbrev pub WholeTextPage : ℕ → List ℕ → List ℕ → List ℕ → ℕ �
 WholeTextPage m s = Whole page_room (page_printed m s)
 
 -- what `put_month` leaves in a buffer with room for any page: r is the length, and the bytes past it stay
-abbrev pub PutsMonth : Account → ℕ → List ℕ → List ℕ → ℕ → Type 0
-PutsMonth a m before after r =
-    IsLedgers a (λ (t : Terms) (l : Ledger). (length (month_printed m t l.list), month_printed m t l.list ++ drop (length (month_printed m t l.list)) before)) (r, after)
+pub record PutsMonth (a : Account) (m : ℕ) (before after : List ℕ) (r : ℕ) : Type 0 where
+  pub count : IsLedgers a (λ (t : Terms) (l : Ledger). length (month_printed m t l.list)) r
+  pub buffer : IsLedgers a (λ (t : Terms) (l : Ledger). month_printed m t l.list ++ drop (length (month_printed m t l.list)) before) after
