@@ -1,12 +1,12 @@
 -- What is printed for a month, by what the call leaves. Assumes nothing.
-use Prim.Native.Nat.{ℕ, ◌≤◌, ◌<◌}
+use Prim.Native.Nat.{ℕ, ◌≤◌, ◌<◌, ◌^◌}
 use native.Mathlib.Omega.{arith}
-use mathlib.Core.Path.{◌≡◌, refl, sym, ap, ◌∙◌}
-use mathlib.Core.Bool.{true, false, cond}
-use mathlib.Core.List.{List, ◌++◌}
+use mathlib.Core.Path.{◌≡◌, sym, ap, ◌∙◌}
+use mathlib.Core.Bool.{cond}
+use mathlib.Core.List.{List, [], ◌∷◌, ◌++◌}
 use lib.ListN.{length, drop}
 use lib.Dec.{ltb, eqb}
-use borrow.Author.Tests.{le-ltb, ltb-true, ltb-false, eqb-true, ne_eqb}
+use borrow.Author.Tests.{le-ltb, eqb-true, ne_eqb}
 use Rattle.std.proofs.lemmas.Bool.{cond-false}
 use Rattle.terms.specs.declared.Terms.{Terms}
 use Rattle.ledger.specs.declared.Answer.{Answer}
@@ -17,12 +17,17 @@ use Rattle.ledger.specs.Ledger.{ledger_of}
 use Rattle.account.specs.declared.Account.{Account}
 use Rattle.refinement.specs.Lists.{Made}
 use Rattle.ledger.specs.Months.{ledger_summary}
-use Rattle.ledger.specs.Buffers.{Laid, laid, refused}
+use Rattle.ledger.specs.Buffers.{Laid}
 use Rattle.ledger.proofs.Cases.{decide}
-use Rattle.printing.specs.Printing.{Wrote, Whole, over}
-use Rattle.printing.proofs.Placed.{from_start}
+use Rattle.printing.specs.Printing.{Whole, over}
+use Rattle.scanner.specs.Scanner.{bytes}
+use Rattle.printing.specs.Printing.{decimal}
+use Rattle.printing.specs.Printer.{Prints}
+use Rattle.printing.specs.declared.Printer.{Printer}
+use Rattle.printing.proofs.Digits.{length-decimal}
+use Rattle.printing.proofs.Placed.{from_start, word-last, field-then}
 use Rattle.month_page.specs.declared.Line.{Line}
-use Rattle.month_page.specs.Page.{lines_bytes, page_lines, laid_by, ledger_page}
+use Rattle.month_page.specs.Page.{lines_bytes, page_lines, laid_by}
 use Rattle.month_page.specs.Record.{left, IsPage}
 use Rattle.text_page.specs.TextPage.{refusal_line, month_printed}
 
@@ -94,3 +99,14 @@ module _ (a : Account) (m : ℕ) (before after : List ℕ) (r : Answer) (t : Ter
   month-refused z room =
       let d = is-refused (ledger_summary t l m) (page_lines t l m) before after r (p.ledgers t es h) z (λ e. omega (arith, room, p.room e)) in
       (printed-refusal t l m r.code d.code z, d.buffer)
+
+-- ---- the line of a refusal
+
+pub refusal-put : {p q r : Printer} (code : ℕ) → Prints p (bytes "code=" ++ decimal code) q → Prints q (bytes " value=0" ++ 10 ∷ []) r
+    → p.at ≡ 0 → code < 2 ^ 64 → 34 ≤ length p.out.now
+    → (r.at ≡ length (refusal_line code)) × (r.out.now ≡ refusal_line code ++ drop (length (refusal_line code)) p.out.now)
+refusal-put {p} code w v z few room =
+    let d = (field-then (bytes "code=") (decimal code) 20 (length-decimal code few) w 9 (word-last v) (omega (arith, z, room))).0 in (
+      omega (arith, d.wrote.next, z),
+      d.wrote.buffer ∙ ap (λ (k : ℕ). over p.out.now k (refusal_line code)) z ∙ from_start p.out.now (refusal_line code),
+    )

@@ -1,5 +1,5 @@
 -- What `page` prints, as a definition of the bytes and the month it was given, in the ledger's terms.
-use Rattle.std.specs.Prelude.{ℕ, ◌≡◌, cond, List, [], ◌∷◌, ◌++◌, length, drop, eqb}
+use Rattle.std.specs.Prelude.{ℕ, cond, List, [], ◌∷◌, ◌++◌, length, drop, eqb}
 use Rattle.terms.specs.declared.Terms.{Terms}
 use Rattle.ledger.specs.Entries.{Entries}
 use Rattle.ledger.specs.Ledger.{ledger_of}

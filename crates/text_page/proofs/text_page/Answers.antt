@@ -1,6 +1,5 @@
-use Rattle.std.proofs.Common.{ℕ, List, rules, subst, sym, ◌∙◌, arith}
+use Rattle.std.proofs.Common.{ℕ, List, rules, subst, arith}
 use Rattle.ledger.specs.Ledger.{ledger_of}
-use Rattle.printing.specs.Printer.{Writes}
 use Rattle.printing.proofs.Placed.{all-put}
 use Rattle.text_account.specs.TextAccount.{events_of}
 use Rattle.text_page.specs.TextPage.{text_month, month_printed, page_printed, WholeTextPage}
