@@ -55,7 +55,9 @@ static prepay_account *a; /* the account, in closed pages */
 enum { MOST = 40 };
 static prepay_event *row;
 static uint8_t *codes;
-static uint8_t *page; /* PREPAY_PAGE_ROOM bytes that end at a closed page */
+enum { BEFORE = 64 };
+static uint8_t *page;                                /* BEFORE bytes, and a buffer for any page that ends at a closed page */
+static uint8_t untouched[BEFORE + PREPAY_PAGE_ROOM]; /* what stands there before a call */
 
 static const uint64_t MAX_TOTAL = UINT64_C(1) << 60, MAX_CHARGES = UINT64_C(1) << 40;
 
@@ -171,20 +173,19 @@ static void lay_out(uint32_t month, const prepay_figures *f) {
 
 /* Asks for a page in a buffer of `length` bytes that ends at the closed page. */
 static prepay_answer paged(uint32_t month, size_t length) {
-    memset(page, 0xEE, PREPAY_PAGE_ROOM);
-    return prepay_page(a, month, page + (PREPAY_PAGE_ROOM - length), length);
+    uint8_t *out = page + BEFORE + PREPAY_PAGE_ROOM - length;
+    memcpy(out - BEFORE, untouched, BEFORE + length);
+    return prepay_page(a, month, out, length);
 }
 
-/* Whether of the buffer of `length` bytes the first `written` are the wanted page, and all the other bytes as they were. */
+/* Whether of that buffer the first `written` bytes are the wanted page, and all others, before it too, as they were. */
 static int is_page(size_t length, size_t written) {
-    static uint8_t were[PREPAY_PAGE_ROOM];
-    size_t from = PREPAY_PAGE_ROOM - length;
-    memset(were, 0xEE, sizeof were);
-    return memcmp(page, were, from) == 0 && memcmp(page + from, wanted, written) == 0 &&
-           memcmp(page + from + written, were, length - written) == 0;
+    const uint8_t *out = page + BEFORE + PREPAY_PAGE_ROOM - length;
+    return memcmp(out - BEFORE, untouched, BEFORE) == 0 && memcmp(out, wanted, written) == 0 &&
+           memcmp(out + written, untouched, length - written) == 0;
 }
 
-/* The figures of a month and its page. */
+/* The figures of a month, and often its page. */
 static void read_month(int account, uint32_t month) {
     static const prepay_figures zeros;
     prepay_figures f = prepay_summary(a, month);
@@ -199,18 +200,18 @@ static void read_month(int account, uint32_t month) {
                 code = PREPAY_NO_ACCOUNT;
     expect(f.code == code, "a month's code");
     if (f.code != PREPAY_OK) {
-        size_t length = below(2) ? PREPAY_PAGE_ROOM : below(PREPAY_PAGE_ROOM);
+        size_t length = below(32) ? below(1000) : PREPAY_PAGE_ROOM;
         prepay_answer answer = paged(month, length);
         expect(answer.code == f.code && answer.value == 0 && is_page(length, 0), "a page is refused as the figures are, and not written");
         f.code = 0;
         expect(memcmp(&f, &zeros, sizeof f) == 0, "the figures of a refused month are 0");
         return;
     }
-    if (code != PREPAY_OK)
+    if (code != PREPAY_OK || below(3))
         return;
     lay_out(month, &f);
     for (int fits = 0; fits <= 1; fits++) {
-        size_t length = fits ? (below(4) ? wanted_len : PREPAY_PAGE_ROOM) : below(2) ? wanted_len - 1 : below((uint32_t)wanted_len);
+        size_t length = fits ? (below(32) ? wanted_len : PREPAY_PAGE_ROOM) : below(2) ? wanted_len - 1 : below((uint32_t)wanted_len);
         size_t written = fits ? wanted_len : 0;
         prepay_answer answer = paged(month, length);
         expect(answer.code == (fits ? PREPAY_OK : PREPAY_SHORT_BUFFER) && answer.value == written, "a page's code and length");
@@ -456,13 +457,14 @@ static void strange_readers(prepay_reader *reader, prepay_terms *read_terms, pre
 }
 
 int main(int argc, char **argv) {
+    memset(untouched, 0xEE, sizeof untouched);
     for (int i = 1; i < argc; i++) {
         for (int at_end = 0; at_end <= 1; at_end++) {
             state = strtoull(argv[i], NULL, 10) * 2 + (uint64_t)at_end;
             a = fenced(sizeof *a, at_end);
             row = fenced(MOST * sizeof *row, 1);
             codes = fenced(MOST, 1);
-            page = fenced(PREPAY_PAGE_ROOM, 1);
+            page = fenced(BEFORE + PREPAY_PAGE_ROOM, 1);
             strange_accounts();
             strange_readers(fenced(sizeof(prepay_reader), at_end), fenced(sizeof(prepay_terms), at_end), fenced(sizeof(prepay_event), at_end));
         }
