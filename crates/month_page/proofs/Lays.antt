@@ -3,9 +3,13 @@ use Prim.Native.Nat.{ℕ, zero, suc, ◌+◌, ◌*◌, ◌/◌, ◌≤◌, ◌<�
 use native.Mathlib.Omega.{arith}
 use mathlib.Core.Path.{◌≡◌, refl, sym, ap, subst, ◌∙◌}
 use mathlib.Core.Bool.{true}
+use mathlib.Core.Logic.{inl, inr}
 use mathlib.Core.List.{List, [], ◌∷◌, ◌++◌, append_assoc}
 use lib.ListN.{length, get_or, length-append}
-use borrow.Author.Tests.{le-leb}
+use lib.Seq.{take_at, drop_at}
+use lib.Dec.{leb}
+use borrow.Author.Tests.{le-leb, leb-false}
+use Rattle.ledger.proofs.Cases.{decide}
 use Rattle.std.specs.Prelude.{Option, Some, None, option_to_list}
 use Rattle.std.proofs.lemmas.Bool.Decides.{nat_tests}
 use Rattle.months.specs.Summary.{are_in_range}
@@ -18,8 +22,8 @@ use Rattle.printing.proofs.Placed.{printed_then}
 use Rattle.month_page.specs.declared.Line.{Line}
 use Rattle.month_page.specs.Page.{label, hundredths_of, figure, figure_or_none, line_bytes, lines_bytes}
 use Rattle.month_page.proofs.Lines.{laid-out, figure-fits}
-use Rattle.month_page.specs.Columns.{FigureStands, Holds, EachHolds}
-use Rattle.month_page.specs.Work.{FiguresStand, Lays}
+use Rattle.month_page.specs.Columns.{is_average, Shows, EachStands}
+use Rattle.month_page.specs.Work.{FigureStands, FiguresStand, Holds, EachHolds, Lays}
 
 pub append-nil : {A : Type 0} (l : List A) → l ++ [] ≡ l
 append-nil [] = refl
@@ -75,7 +79,7 @@ pub length-lines : (xs : List Line) → EachNarrow xs → length (lines_bytes xs
 unfolding lines_bytes line_bytes figure
 length-lines [] h = omega arith
 length-lines (x ∷ xs) h =
-    omega (arith, length-append (line_bytes x) (lines_bytes xs), (laid-out (label x) (figure x) h.0 (figure-fits (hundredths_of x))).columns, length-lines xs h.1)
+    omega (arith, length-append (line_bytes x) (lines_bytes xs), (laid-out (label x) (figure x) h.0 (figure-fits (hundredths_of x))).size, length-lines xs h.1)
 
 -- where the lines end
 pub lays-end : {p q : Printer} {xs : List Line} → Lays p xs q → q.at ≡ p.at + 73 * length xs
@@ -103,3 +107,25 @@ pub stands-at : (xs : List Line) (i : ℕ) (d : Line) → i < length xs → Figu
 stands-at [] i d h s = absurd (omega arith)
 stands-at (x ∷ xs) zero d h s = s.0
 stands-at (x ∷ xs) (suc i) d h s = stands-at xs i d (omega arith) s.1
+
+-- ---- as they stand in a buffer
+
+shows : (x : Line) (o : Option ℕ) → hundredths_of x ≡ o → FigureStands x → Shows (is_average x) (figure x) o
+unfolding figure
+shows x None e s = ap figure_or_none e
+shows x (Some n) e s = decide (leb (length (hundredths n)) 14)
+    (λ y. inl (ap figure_or_none e ∙ simp y))
+    (λ f. decide (is_average x)
+    (λ a. inr (a, omega (arith, leb-false _ _ f), ap figure_or_none e ∙ simp f))
+    (λ a. inl (s n a e)))
+
+pub lines-stand : (xs : List Line) (rest : List ℕ) → EachHolds xs → EachStands xs (lines_bytes xs ++ rest)
+unfolding lines_bytes
+lines-stand [] rest h = tt
+lines-stand (x ∷ xs) rest h =
+    let e = append_assoc (line_bytes x) (lines_bytes xs) rest in
+    let first = take_at (line_bytes x) (lines_bytes xs ++ rest) 73 h.0.laid_out.size in
+    let after = drop_at (line_bytes x) (lines_bytes xs ++ rest) 73 h.0.laid_out.size in (
+      record { laid_out = rw (e, first) h.0.laid_out; shows = shows x (hundredths_of x) refl h.0.stands },
+      rw (e, after) (lines-stand xs rest h.1),
+    )

@@ -63,8 +63,8 @@ module _ (word digits : List ℕ) (h : length word ≤ 58) (g : length digits �
 
   pub laid-out : IsLaidOut word digits line
   laid-out = record {
-    columns = rw (in_two, length-append (word ++ replicate between 32) end, head-length, length-append digits (10 ∷ [])) (omega arith);
-    feed =
+    size = rw (in_two, length-append (word ++ replicate between 32) end, head-length, length-append digits (10 ∷ [])) (omega arith);
+    ended =
         let e : 72 ≡ length (word ++ replicate between 32) + length digits = rw head-length (omega arith) in
         let z : length digits ≡ length digits + 0 = omega arith in
         rw in_two (ap (λ (k : ℕ). get_or ((word ++ replicate between 32) ++ end) k 0) e

@@ -41,9 +41,10 @@ use Rattle.printing.specs.Printing.{over}
 use Rattle.printing.proofs.Placed.{from_start}
 use Rattle.month_page.specs.declared.Line.{Line}
 use Rattle.month_page.specs.Page.{lines_bytes, each_line, paid_lines, figure_lines, lines_by, page_lines, laid_by, ledger_page}
-use Rattle.month_page.specs.Columns.{EachHolds}
+use Rattle.month_page.specs.Columns.{EachStands}
+use Rattle.month_page.specs.Work.{EachHolds}
 use Rattle.month_page.specs.Record.{paid_lines_of, lines_of, page_of, left, IsPage}
-use Rattle.month_page.proofs.Lays.{length-lines}
+use Rattle.month_page.proofs.Lays.{length-lines, lines-stand}
 use Rattle.month_page.proofs.Payments.{length-each, count-is}
 use Rattle.month_page.proofs.Labels.{lines-narrow}
 
@@ -54,18 +55,20 @@ unfolding each_line
 each-same f g zero h = refl
 each-same f g (suc n) h = rw (each-same f g n (λ k b. h k (omega (arith, b))), h n (omega arith)) refl
 
-page-made : (a : Account) (m : ℕ) (buffer : List ℕ) (t : Terms) (es : List Event) → Made t es a → page_of a m buffer ≡ ledger_page t (ledger_of t es).list m buffer
+lines-made : (a : Account) (m : ℕ) (t : Terms) (es : List Event) → Made t es a → lines_of a m ≡ page_lines t (ledger_of t es).list m
 unfolding lines_of page_lines paid_lines
-page-made a m buffer t es h =
+lines-made a m t es h =
     let l = (ledger_of t es).list in
     let g : Agree t a (ledger_of t es) = (made-represents t es a h).agree in
     let d : Dated l = dated-after t es in
     let paid : paid_lines_of a m ≡ paid_lines t l m =
     rw (g.terms, g.sums.count)
     (each-same _ _ (payment_count l) (λ n b. rw (g.kept.payments n b, in-month t m (valid-opens t h.valid) (paid_on l n) (d n)) refl)) in
-    let figures : summary_of a m ≡ ledger_summary t l m = summary-made a m t es h in
     let date : a.terms.opened ≡ t.opened = ap (λ (x : Terms). x.opened) g.terms in
-    λ i. laid_by (figures i) (lines_by (date i) m (paid i) (figures i)) buffer
+    λ i. lines_by (date i) m (paid i) (summary-made a m t es h i)
+
+page-made : (a : Account) (m : ℕ) (buffer : List ℕ) (t : Terms) (es : List Event) → Made t es a → page_of a m buffer ≡ ledger_page t (ledger_of t es).list m buffer
+page-made a m buffer t es h = λ i. laid_by (summary-made a m t es h i) (lines-made a m t es h i) buffer
 
 laid-short : (bs before : List ℕ) → length before < length bs → laid bs before ≡ refused 16 before
 laid-short bs before h = simp (lt-ltb (length before) (length bs) h)
@@ -79,12 +82,15 @@ module _ (a : Account) (m : ℕ) where
   by_summary e before = λ i. laid_by (e i) (lines_of a m) before
 
   promised : (s : Summary) → IsSummary a m s → (before after : List ℕ) (r : Answer) → left r after ≡ page_of a m before
-      → (r.code ≡ 16 → length before < 9782) → (r.code ≡ 0 → EachHolds (lines_of a m)) → IsPage a m before after r
-  promised s i before after r e room columns = record {
+      → (r.code ≡ 16 → length before < 9782)
+      → (r.code ≡ 0 → r.value ≡ 73 * (6 + (summary_of a m).kept.count)) → (r.code ≡ 0 → EachStands (lines_of a m) after) → IsPage a m before after r
+  promised s i before after r e room size columns = record {
     account = e;
     ledgers = λ t es h. e ∙ page-made a m before t es h;
     none = λ h. e ∙ by_summary (sym i.account ∙ i.none h) before;
+    lines = λ t es h. lines-made a m t es h;
     room = room;
+    length = size;
     columns = columns;
   }
 
@@ -104,7 +110,7 @@ module _ (a : Account) (m : ℕ) where
       let low : refusal_code r ≤ 3 = rw (sym i.account) at code-low in
       rw e (promised (summary_record (Err r)) i before before (answer (refusal_code r) 0)
       (sym (by_summary (sym i.account) before ∙ cond-false (eqb (refusal_code r) 0) _ _ not-0))
-      (λ z. absurd (omega (arith, low, z))) (λ z. absurd (omega (arith, positive r, z))))
+      (λ z. absurd (omega (arith, low, z))) (λ z. absurd (omega (arith, positive r, z))) (λ z. absurd (omega (arith, positive r, z))))
 
   -- ---- a month that has figures
 
@@ -172,7 +178,7 @@ module _ (a : Account) (m : ℕ) where
     short-page before h =
         promised (summary_record (Ok f)) i before before (answer 16 0)
         (sym (by_summary (sym i.account) before ∙ laid-short (lines_bytes (lines_of a m)) before (omega (arith, h, bytes))))
-        (λ z. omega (arith, h, few)) (λ z. absurd (omega (arith, z)))
+        (λ z. omega (arith, h, few)) (λ z. absurd (omega (arith, z))) (λ z. absurd (omega (arith, z)))
 
     pub whole-page : (before after : List ℕ) → 73 * (6 + f.kept.count) ≤ length before → after ≡ over before 0 (lines_bytes (lines_of a m)) → EachHolds (lines_of a m)
         → IsPage a m before after (answer 0 (73 * (6 + f.kept.count)))
@@ -181,4 +187,5 @@ module _ (a : Account) (m : ℕ) where
         (sym (by_summary (sym i.account) before
         ∙ laid-whole (lines_bytes (lines_of a m)) before (omega (arith, h, bytes))
         ∙ (λ j. record { answer = record { code = 0; value = bytes j }; buffer = (sym (e ∙ from_start before (lines_bytes (lines_of a m)))) j })))
-        (λ z. absurd (omega (arith, z))) (λ z. holds)
+        (λ z. absurd (omega (arith, z))) (λ z. ap (λ (s : Summary). 73 * (6 + s.kept.count)) i.account)
+        (λ z. rw (e ∙ from_start before (lines_bytes (lines_of a m))) (lines-stand (lines_of a m) (drop (length (lines_bytes (lines_of a m))) before) holds))

@@ -20,7 +20,7 @@ use Rattle.month_page.specs.declared.Line.{Line}
 use Rattle.month_page.specs.declared.Line.TheVariants.{Paid}
 use Rattle.month_page.specs.Page.{each_line}
 use Rattle.month_page.proofs.Lays.{append-nil, stands}
-use Rattle.month_page.specs.Columns.{FigureStands}
+use Rattle.month_page.specs.Work.{FigureStands}
 use Rattle.month_page.specs.Record.{payment_line, first_paid_lines}
 
 pub first-more : (a : Account) (m n : ℕ) (o : Option Line) → o ≡ payment_line a.terms.opened m (get_or a.payments n no_payment)

@@ -1,4 +1,5 @@
 pub mod Page
 pub mod Columns
+pub mod Figures
 pub mod Record
 pub mod Work

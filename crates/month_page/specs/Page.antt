@@ -15,7 +15,7 @@ use Rattle.month_page.specs.declared.Line.TheVariants.{Month, Paid, Usage, Kind,
 
 -- ---- a line
 
--- "`Month YYYY-MM`", "`Paid YYYY-MM-DD`", "`Usage N Wh`", "`Kind 3` to `Kind 5`", "`Average`"
+-- A year of an account has four digits. "`Month YYYY-MM`", "`Paid YYYY-MM-DD`", "`Usage N Wh`", "`Kind 3` to `Kind 5`", "`Average`"
 unfoldable pub label : Line → List ℕ
 label (Month year month) = bytes "Month " ++ (decimal year ++ (bytes "-" ++ two_digits month))
 label (Paid date amount) = bytes "Paid " ++ (decimal date.year ++ (bytes "-" ++ (two_digits date.month ++ (bytes "-" ++ two_digits date.day))))
@@ -27,7 +27,8 @@ label (Average average) = bytes "Average"
 abbrev pub figure_columns : ℕ
 figure_columns = 14
 
--- what a line's figure has hundredths of: "amounts in dollars", so cents; the average, hundredths of a cent, "in cents per kWh"
+-- The number that a line's figure shows, in hundredths: "amounts in dollars", so of a dollar, cents; "in cents per kWh", so of a cent; none where
+-- the line has no figure.
 abbrev pub hundredths_of : Line → Option ℕ
 hundredths_of (Month year month) = None
 hundredths_of (Paid date amount) = Some amount
@@ -35,7 +36,7 @@ hundredths_of (Usage wh cost) = Some cost
 hundredths_of (Kind kind sum) = Some sum
 hundredths_of (Average average) = average
 
--- "with two decimals"; "An average missing or too wide is 14 spaces." No other figure is too wide: `month_page::columns_hold`.
+-- "with two decimals"; "An average missing or too wide is 14 spaces." No other figure is too wide: `IsPage.columns`.
 abbrev pub figure_or_none : Option ℕ → List ℕ
 figure_or_none None = []
 figure_or_none (Some n) = cond (leb (length (hundredths n)) figure_columns) (hundredths n) []
@@ -43,13 +44,14 @@ figure_or_none (Some n) = cond (leb (length (hundredths n)) figure_columns) (hun
 unfoldable pub figure : Line → List ℕ
 figure x = figure_or_none (hundredths_of x)
 
--- "lines of exactly 72 columns and a line feed, a label from column 1 and a figure"; "All other columns are spaces."
+-- the columns before them
 abbrev pub label_columns : ℕ
 label_columns = 72 - figure_columns
 
 abbrev pub line_length : ℕ
 line_length = label_columns + figure_columns + 1
 
+-- "lines of exactly 72 columns and a line feed, a label from column 1 and a figure"; "All other columns are spaces."
 unfoldable pub line_bytes : Line → List ℕ
 line_bytes x = aligned_left label_columns (label x) ++ (aligned_right figure_columns (figure x) ++ feed ∷ [])
 
@@ -75,7 +77,8 @@ paid_line t l m n = cond (in_month t m (paid_on l n) && not (reversed l n)) (Som
 unfoldable pub paid_lines : Terms → Entries → ℕ → List Line
 paid_lines t l m = each_line (paid_line t l m) (payment_count l)
 
--- "with Wh and cost of both sorts together"; the sums of charge kinds 3, 4 and 5; the average, where it is not missing
+-- "with Wh and cost of both sorts together"; the sums of charge kinds 3, 4 and 5; the average, without figure where it is
+-- missing
 abbrev pub figure_lines : Summary → List Line
 figure_lines s =
     Usage (s.metered.wh + s.estimated.wh) (s.metered.cost + s.estimated.cost)
@@ -100,6 +103,6 @@ laid_by s lines buffer = cond (eqb s.code 0) (laid (lines_bytes lines) buffer) (
 abbrev pub ledger_page : Terms → Entries → ℕ → List ℕ → Laid
 ledger_page t l m buffer = laid_by (ledger_summary t l m) (page_lines t l m) buffer
 
--- Six lines and one for each payment at the most: a buffer that holds any page.
+-- Six lines, and at most 128 of payments: a buffer that holds any page.
 abbrev pub page_room : ℕ
 page_room = line_length * (6 + max_payments)

@@ -1,5 +1,5 @@
 -- The page off the account record, and what `page` promises of it.
-use Rattle.std.specs.Prelude.{ℕ, ◌<◌, ◌≡◌, cond, not, ◌&&◌, List, length, get_or, Option, Some, None}
+use Rattle.std.specs.Prelude.{ℕ, ◌+◌, ◌*◌, ◌<◌, ◌≡◌, cond, not, ◌&&◌, List, length, get_or, Option, Some, None}
 use Rattle.calendar.specs.declared.Date.{Date}
 use Rattle.calendar.specs.Calendar.{date_on}
 use Rattle.ledger.specs.declared.Answer.{Answer}
@@ -13,14 +13,14 @@ use Rattle.months.specs.Summary.{in_month_of, summary_of}
 use Rattle.moves.specs.declared.Payment.{Payment}
 use Rattle.month_page.specs.declared.Line.{Line}
 use Rattle.month_page.specs.declared.Line.TheVariants.{Paid}
-use Rattle.month_page.specs.Page.{page_room, each_line, lines_by, laid_by, ledger_page}
-use Rattle.month_page.specs.Columns.{EachHolds}
+use Rattle.month_page.specs.Page.{line_length, page_room, page_lines, each_line, lines_by, laid_by, ledger_page}
+use Rattle.month_page.specs.Columns.{EachStands}
 
--- a payment's line, where it is kept and of month m
+-- the line of a payment that is kept and of month m
 abbrev pub payment_line : Date → ℕ → Payment → Option Line
 payment_line opened m p = cond (in_month_of opened m p.day && not p.reversed) (Some (Paid (date_on opened p.day) p.amount)) None
 
--- those of the first n payments, and of all
+-- the lines of the first n payments, and of all
 abbrev pub first_paid_lines : Account → ℕ → ℕ → List Line
 first_paid_lines a m n = each_line (λ (i : ℕ). payment_line a.terms.opened m (get_or a.payments i no_payment)) n
 
@@ -37,13 +37,16 @@ page_of a m buffer = laid_by (summary_of a m) (lines_of a m) buffer
 abbrev pub left : Answer → List ℕ → Laid
 left r buffer = record { answer = r; buffer = buffer }
 
--- What `page` promises of an account's month m and a lent buffer.
+-- What `month_page::page` promises of an account's month m and a lent buffer.
 pub record IsPage (a : Account) (m : ℕ) (before after : List ℕ) (r : Answer) : Type 0 where
   pub account : left r after ≡ page_of a m before
   pub ledgers : IsLedgers a (λ t l. ledger_page t l.list m before) (left r after)
-  -- the record of which every event gets 1
+  pub lines : IsLedgers a (λ t l. page_lines t l.list m) (lines_of a m)
+  -- a record that is no account: every event gets 1
   pub none : ((e : Event) → (step_of a e).code ≡ 1) → left r after ≡ refused 1 before
   -- `page_room` holds any page
   pub room : r.code ≡ 16 → length before < page_room
-  -- of any numbers that get a page
-  pub columns : r.code ≡ 0 → EachHolds (lines_of a m)
+  -- six lines, and one for each payment kept
+  pub length : r.code ≡ 0 → r.value ≡ line_length * (6 + (summary_of a m).kept.count)
+  -- whatever record gets a page, account or not: its lines stand in the buffer, one after the other
+  pub columns : r.code ≡ 0 → EachStands (lines_of a m) after

@@ -1,19 +1,19 @@
 // The page of a month: its figures and its payments as lines of 72 columns, laid into a lent buffer.
 // It uses the calendar, the ledger's refusals, the account, the month's figures and the printing, and in its definitions the terms, the scanner's
-// words and the refinement. Its promises cite specs/Page.antt, specs/Columns.antt and specs/Record.antt, and inside the
+// words and the refinement. Its promises cite specs/Page.antt, specs/Columns.antt, specs/Figures.antt and specs/Record.antt, and inside the
 // crate specs/Work.antt. A length is cast by `as`, since usize has
 // no `From` of u32.
 #![tactic(auto)]
 
-ghost use Rattle.std.specs.Prelude.{◌≡◌, ◌*◌, ◌≤◌, ◌<◌, ◌++◌, true, [], ◌∷◌, length, drop, IfSome, Ok};
+ghost use Rattle.std.specs.Prelude.{◌≡◌, ◌*◌, ◌≤◌, ◌<◌, ◌++◌, true, [], ◌∷◌, length, drop, IfSome, map, Ok};
 ghost use Rattle.calendar.specs.Calendar.{opens, month_count};
 ghost use Rattle.ledger.specs.Rules.{max_payments};
 ghost use Rattle.ledger.specs.Refusals.{answer_record, summary_record};
 ghost use Rattle.months.specs.Summary.{WithinLimits};
 ghost use Rattle.printing.specs.Printer.{HasRoom, WritesWithin};
 ghost use Rattle.month_page.specs.Page.{label, label_columns, figure_columns, line_length, figure_or_none, hundredths_of, month_line, figure_lines};
-ghost use Rattle.month_page.specs.Columns.{FigureStands};
-ghost use Rattle.month_page.specs.Work.{FiguresStand, Lays};
+ghost use Rattle.month_page.specs.Work.{FigureStands, FiguresStand, Lays};
+ghost use Rattle.month_page.specs.Figures.{Shown, shown, averages};
 ghost use Rattle.month_page.specs.Record.{payment_line, paid_lines_of, IsPage};
 
 use account::AsAccount;
@@ -47,7 +47,12 @@ pub enum Line {
     Average { average: Option<u64> },
 }
 
-// What the line's figure has hundredths of.
+// What is shown of each average is what the rows expect.
+pub fn figures_hold()
+    ensures { map shown averages ≡ map (λ (x : Shown). x.expected) averages }
+{}
+
+// The number that the line's figure shows, in hundredths.
 fn hundredths_of(line: Line) -> Option<u64>
     ensures { result ≡ hundredths_of line }
 {
