@@ -40,7 +40,7 @@
 #define PREPAY_MAX_PAYMENTS 128
 #define PREPAY_PRICE_CELLS 17
 #define PREPAY_MAX_TEXT 65536
-/* The buffer that holds any page of an account. */
+/* A buffer of so many bytes holds any page. */
 #define PREPAY_PAGE_ROOM 9782
 /* The output buffers of prepay_transcript and prepay_statement. */
 #define PREPAY_TRANSCRIPT_ROOM 655360
@@ -64,7 +64,7 @@ enum {
     PREPAY_NO_WARNING = 13,      /* no warning one to seven days old */
     PREPAY_DAY_BARRED = 14,
     PREPAY_BAD_TEXT = 15,        /* text malformed, or longer than 65,536 bytes */
-    PREPAY_SHORT_BUFFER = 16,    /* shorter than the row or the page */
+    PREPAY_SHORT_BUFFER = 16,    /* codes shorter than the row, or out than the page */
     PREPAY_PRICES_FULL = 17,     /* 16 days after day 0 have a price, and this day is not among them */
     PREPAY_END = 255             /* prepay_read_event: the text has no further event */
 };
@@ -190,7 +190,7 @@ typedef struct {
 typedef struct {
     uint64_t code;
     uint64_t kept_count, kept_sum;         /* payments of the month, not reversed */
-    uint64_t reversed_count, reversed_sum; /* and reversed */
+    uint64_t reversed_count, reversed_sum; /* and of those reversed */
     uint64_t metered_wh, metered_cost;
     uint64_t estimated_wh, estimated_cost;
     uint64_t charges[PREPAY_CHARGE_KINDS]; /* kinds 1 to 5 */
@@ -251,12 +251,13 @@ prepay_reading prepay_readings(const prepay_account *account);
 /* The figures of month `month`, 0 being the opening month. */
 prepay_figures prepay_summary(const prepay_account *account, uint32_t month);
 
-/* Lays the page of month `month` into `out`, from its start: lines of 72 columns and a line feed. Answers 0 and the page's length in bytes,
- * 438 and 73 for each payment of the month that is kept; the bytes after the page stay as they are. Or answers, with value 0 and `out` as it
- * was: what prepay_summary answers where that is not 0 (1, 3), then 16 where `out` has fewer bytes than the page.
- * The lines, each label from column 1, each figure with two decimals in the last 14 columns, its end in column 72, all else spaces:
+/* Lays the page of month `month` into `out`, from its start: lines of 72 columns and a line feed. Answers 0 and the page's length in bytes:
+ * 438, and 73 more for each kept payment of the month; the bytes after the page stay as they are, and no 0 byte is put there. Or answers, with
+ * value 0 and `out` as it was, the code of prepay_summary where that is not 0 (1, 3), then 16 where `out` has fewer bytes than the page.
+ * The lines, in this order, each label from column 1, each figure with two decimals, without sign or separators, in the last 14 columns and its
+ * end in column 72, all else spaces:
  *   Month YYYY-MM           no figure
- *   Paid YYYY-MM-DD         dollars; a line for each payment of the month that is kept, by number
+ *   Paid YYYY-MM-DD         dollars, the plan's part too; a line for each kept payment of the month, by number
  *   Usage N Wh              the cost in dollars; N is metered and estimated energy together, and so is the cost
  *   Kind 3, Kind 4, Kind 5  dollars; a line for each of these kinds of charges
  *   Average                 cents per kWh; spaces where there is no energy, or where it is wider than 14 columns */

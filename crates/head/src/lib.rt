@@ -17,7 +17,7 @@ use terms::Terms;
 
 mod texts;
 
-// What an event is answered.
+// What an event or a page is answered.
 #[repr(C)]
 #[derive(Clone, Copy, Debug, PartialEq, Eq)]
 pub struct AnswerNumbers {
@@ -147,7 +147,7 @@ pub extern "C" fn prepay_summary(account: &Numbers, month: u32) -> FigureNumbers
 pub extern "C" fn prepay_page(account: &Numbers, month: u32, out: &mut [u8]) -> AnswerNumbers
     ensures { IsPage (account_in account.now) month out.old out.new (answer_in result) }
 {
-    // a length is an u64: usize has no `From` into it
+    // a length is a u64: usize has no `From` into it
     let page = month_page::page(account, month, out);
     AnswerNumbers::from(page.map(|length| length as u64))
 }
