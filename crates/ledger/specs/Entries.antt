@@ -43,8 +43,8 @@ unfoldable pub find : (Entry → Entries → Bool) → Entries → Option Entry
 find f [] = none
 find f (x ∷ l) = cond (f x l) (some x) (find f l)
 
--- f of what is found; 0 where there is nothing. The 0 never counts: a reverse of a payment that is not there is refused by 6, and the Wh of a
--- usage day are asked only of an event that L has.
+-- f of what is found; 0 where there is nothing. The 0 never counts: a reverse of a payment that is not there is refused by 6, the Wh of a usage
+-- day are asked only of an event that L has, and a page asks of payments below their count.
 abbrev pub or_zero : (Entry → ℕ) → Option Entry → ℕ
 or_zero f none = 0
 or_zero f (some x) = f x

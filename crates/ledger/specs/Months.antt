@@ -9,7 +9,7 @@ use Rattle.ledger.specs.declared.Summary.{Summary}
 use Rattle.ledger.specs.Event.{is_charge}
 use Rattle.ledger.specs.Entries.{Entry, Entries, sum_of, amount_of, is_kept, is_reversed, UsageDay, blank, estimated, metered, usage_day, estimate_cost_of}
 
--- "Month m, 0 to 14, counts from the opening month": the month of day d.
+-- "Month m, 0 to 14, counts from the opening month": the month of day d. No day has a higher one, so a month from 15 on has no days.
 abbrev pub month_of : Terms → ℕ → ℕ
 month_of t d = month_from t.opened (date_on t.opened d)
 

@@ -48,8 +48,9 @@ figure x = figure_or_none (hundredths_of x)
 abbrev pub label_columns : ℕ
 label_columns = 72 - figure_columns
 
-abbrev pub line_length : ℕ
-line_length = label_columns + figure_columns + 1
+-- with the line feed
+abbrev pub line_size : ℕ
+line_size = label_columns + figure_columns + 1
 
 -- "lines of exactly 72 columns and a line feed, a label from column 1 and a figure"; "All other columns are spaces."
 unfoldable pub line_bytes : Line → List ℕ
@@ -105,4 +106,4 @@ ledger_page t l m buffer = laid_by (ledger_summary t l m) (page_lines t l m) buf
 
 -- Six lines, and at most 128 of payments: a buffer that holds any page.
 abbrev pub page_room : ℕ
-page_room = line_length * (6 + max_payments)
+page_room = line_size * (6 + max_payments)

@@ -13,7 +13,7 @@ use Rattle.months.specs.Summary.{in_month_of, summary_of}
 use Rattle.moves.specs.declared.Payment.{Payment}
 use Rattle.month_page.specs.declared.Line.{Line}
 use Rattle.month_page.specs.declared.Line.TheVariants.{Paid}
-use Rattle.month_page.specs.Page.{line_length, page_room, page_lines, each_line, lines_by, laid_by, ledger_page}
+use Rattle.month_page.specs.Page.{line_size, page_room, page_lines, each_line, lines_by, laid_by, ledger_page}
 use Rattle.month_page.specs.Columns.{EachStands}
 
 -- the line of a payment that is kept and of month m
@@ -47,6 +47,6 @@ pub record IsPage (a : Account) (m : ℕ) (before after : List ℕ) (r : Answer)
   -- `page_room` holds any page
   pub room : r.code ≡ 16 → length before < page_room
   -- six lines, and one for each payment kept
-  pub length : r.code ≡ 0 → r.value ≡ line_length * (6 + (summary_of a m).kept.count)
+  pub length : r.code ≡ 0 → r.value ≡ line_size * (6 + (summary_of a m).kept.count)
   -- whatever record gets a page, account or not: its lines stand in the buffer, one after the other
   pub columns : r.code ≡ 0 → EachStands (lines_of a m) after

@@ -1,8 +1,7 @@
 // The page of a month: its figures and its payments as lines of 72 columns, laid into a lent buffer.
-// It uses the calendar, the ledger's refusals, the account, the month's figures and the printing, and in its definitions the terms, the scanner's
-// words and the refinement. Its promises cite specs/Page.antt, specs/Columns.antt, specs/Figures.antt and specs/Record.antt, and inside the
-// crate specs/Work.antt. A length is cast by `as`, since usize has
-// no `From` of u32.
+// It uses the calendar, the ledger's refusals, the moves' payment, the account, the month's figures and the printing, and in its definitions the
+// terms, the scanner's words and the refinement. Its promises cite specs/Record.antt, which cites specs/Page.antt and specs/Columns.antt, and
+// specs/Figures.antt; inside the crate specs/Work.antt. A count is cast by `as`, since usize has no `From` of u32.
 #![tactic(auto)]
 
 ghost use Rattle.std.specs.Prelude.{◌≡◌, ◌*◌, ◌≤◌, ◌<◌, ◌++◌, true, [], ◌∷◌, length, drop, IfSome, map, Ok};
@@ -11,7 +10,7 @@ ghost use Rattle.ledger.specs.Rules.{max_payments};
 ghost use Rattle.ledger.specs.Refusals.{answer_record, summary_record};
 ghost use Rattle.months.specs.Summary.{WithinLimits};
 ghost use Rattle.printing.specs.Printer.{HasRoom, WritesWithin};
-ghost use Rattle.month_page.specs.Page.{label, label_columns, figure_columns, line_length, figure_or_none, hundredths_of, month_line, figure_lines};
+ghost use Rattle.month_page.specs.Page.{label, label_columns, figure_columns, line_size, figure_or_none, hundredths_of, month_line, figure_lines};
 ghost use Rattle.month_page.specs.Work.{FigureStands, FiguresStand, Lays};
 ghost use Rattle.month_page.specs.Figures.{Shown, shown, averages};
 ghost use Rattle.month_page.specs.Record.{payment_line, paid_lines_of, IsPage};
@@ -101,7 +100,7 @@ fn figure_in(n: Option<u64>, out: &mut [u8]) -> usize
 }
 
 fn put_line(page: &mut Printer, line: Line)
-    requires { HasRoom page.old line_length × FigureStands line }
+    requires { HasRoom page.old line_size × FigureStands line }
     ensures { Lays page.old (line ∷ []) page.new }
 {
     let start = page.at;
@@ -115,7 +114,7 @@ fn put_line(page: &mut Printer, line: Line)
 }
 
 fn put_lines(page: &mut Printer, lines: &[Line])
-    requires { HasRoom page.old (line_length * length lines.now) × FiguresStand lines.now }
+    requires { HasRoom page.old (line_size * length lines.now) × FiguresStand lines.now }
     ensures { Lays page.old lines.now page.new }
 {
     for line in lines {
@@ -141,7 +140,7 @@ fn payment_line(opened: Date, m: u32, p: Payment) -> Option<Line>
 
 // The lines of the month's kept payments, by number.
 fn put_payments<A: AsAccount>(page: &mut Printer, a: &A, m: u32)
-    requires room { HasRoom page.old (line_length * length (paid_lines_of (A.account a.now) m)) }
+    requires room { HasRoom page.old (line_size * length (paid_lines_of (A.account a.now) m)) }
     requires count { (A.account a.now).totals.count ≤ max_payments }
     ensures { Lays page.old (paid_lines_of (A.account a.now) m) page.new }
 {

@@ -27,11 +27,11 @@ unfoldable pub signed : ℤ → List ℕ
 signed (pos n) = decimal n
 signed (negsuc n) = 45 ∷ decimal (suc n)
 
--- the last two digits of a number: all, of one below 100
+-- a number below 100 as two digits; of a larger one the last two
 abbrev pub two_digits : ℕ → List ℕ
 two_digits n = (48 + n / 10 % 10) ∷ (48 + n % 10) ∷ []
 
--- a number of hundredths with two decimals, after a point
+-- a number of hundredths with two decimals, without sign or separators: `60.00` of 6000, `0.05` of 5
 unfoldable pub hundredths : ℕ → List ℕ
 hundredths n = decimal (n / 100) ++ (46 ∷ two_digits n)
 
@@ -40,7 +40,7 @@ hundredths n = decimal (n / 100) ++ (46 ∷ two_digits n)
 abbrev pub spaces : ℕ → List ℕ
 spaces n = replicate n 32
 
--- bytes from the first of so many columns on, and bytes that end in the last of them; the other columns are spaces
+-- aligned left, and right, in so many columns, filled up with spaces; longer bytes go past them
 abbrev pub aligned_left : ℕ → List ℕ → List ℕ
 aligned_left columns s = s ++ spaces (columns - length s)
 

@@ -71,7 +71,7 @@ is_number v =
     leb 1 (length v)
     && (all_digits v && ((eqb (length v) 1 || not (eqb (get_or v 0 0) 48)) && leb (value_from 0 v) max_number))
 
--- the number that some bytes are
+-- the number that some bytes write, if they write one
 unfoldable pub number_of : List ℕ → Option ℕ
 number_of v = cond (is_number v) (Some (value_from 0 v)) None
 

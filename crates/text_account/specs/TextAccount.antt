@@ -21,11 +21,11 @@ event_list = record {
 abbrev pub events_of : List ℕ → List Event
 events_of s = fold_events event_list tt s
 
--- The equation holds without the count, for every text.
+-- `fold_events` ends after as many events as the text has bytes: that leaves none out, of any text.
 abbrev pub EventsSuffice : Type 0
 EventsSuffice = (s : List ℕ) → events_of s ≡ fold_by event_list (fold_events event_list) tt s
 
--- The account of the text's terms and of the events in the bytes after them, by which the text is printed.
+-- The account of the text's terms and of the events in the bytes after them. `printed`, for every f, says that they are the text's own.
 pub record TextAccount (s : List ℕ) (a : Account) : Type 0 where
   pub terms : Terms
   pub rest : List ℕ

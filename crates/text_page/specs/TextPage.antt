@@ -21,7 +21,7 @@ refusal_line code = bytes "code=" ++ (decimal code ++ (bytes " value=0" ++ feed 
 unfoldable pub month_printed : ℕ → Terms → Entries → List ℕ
 month_printed m t l = cond (eqb (ledger_summary t l m).code 0) (lines_bytes (page_lines t l m)) (refusal_line (ledger_summary t l m).code)
 
--- of the events that stand in the bytes after good terms
+-- of the events in the bytes after good terms, up to the first that breaks the form
 abbrev pub text_month : ℕ → Terms → List ℕ → List ℕ
 text_month m t rest = month_printed m t (ledger_of t (events_of rest)).list
 

@@ -35,8 +35,8 @@ loop-number-preserved g c =
     rw (c.terms.ensures, c.payment.ensures) at c.payment_line.ensures.line in
     subst (λ (xs : List Line). Lays c.args.page.now xs c.match-payment_line.page) (sym (first-more a c.args.m c.loop-number.number c.payment_line.result next))
     (elim c.match-payment_line.branch [
-      | in-Some w ↦ rw w.page-is (lays_some c.payment_line.result i w.in-Some.is w.put_line.ensures)
-      | in_default w ↦ rw w.page-is (lays_skip c.payment_line.result i w.in_default.is)
+      | in-Some w ↦ rw w.page-is (lays_some {xs = first_paid_lines a c.args.m c.loop-number.number} c.payment_line.result i w.in-Some.is w.put_line.ensures)
+      | in_default w ↦ rw w.page-is (lays_skip {xs = first_paid_lines a c.args.m c.loop-number.number} c.payment_line.result i w.in_default.is)
     ])
 
 pub returns : goal.returns
