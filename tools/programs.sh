@@ -399,6 +399,9 @@ for arguments in WRONG:
     os.close(source)
 expect("page, no argument, closed input", ended(started("page", None, arguments=(), preexec_fn=closing(0))), (b"", ASKED, 2))
 expect("page, no argument, closed output", ended(started("page", None, arguments=(), preexec_fn=closing(1))), (b"", ASKED, 2))
+expect("page, no argument, closed standard error", ended(started("page", b"", arguments=(), preexec_fn=closing(2))), (b"", b"", 1))
+with open("/dev/full", "wb") as full:
+    expect("page, no argument, full standard error", ended(started("page", b"", arguments=(), stderr=full)), (b"", b"", 1))
 
 print(f"{cases} cases, {failures} failures")
 sys.exit(1 if failures else 0)
