@@ -19,8 +19,8 @@
  *
  * Stack, in bytes, the greatest measured on good and on damaged numbers, the room for the answer included (bench/stack.c), on x86-64, for
  * which alone the kit builds:
- *   prepay_open 88, prepay_post 440, prepay_row 488, prepay_readings 56, prepay_summary 576, prepay_page 656, prepay_read_terms 376,
- *   prepay_read_event 392; for hosts prepay_transcript 17,560, prepay_statement 26,136.
+ *   prepay_open 88, prepay_post 440, prepay_row 488, prepay_readings 56, prepay_summary 576, prepay_page 656, prepay_read_terms 344,
+ *   prepay_read_event 264; for hosts prepay_transcript 9,272, prepay_statement 26,104.
  */
 #ifndef PREPAY_HEAD_H
 #define PREPAY_HEAD_H

@@ -2,11 +2,11 @@
 // specs/Printer.antt. No `write!`: std promises what that has put only where it answers `Ok`, and never that it does.
 #![tactic(auto)]
 
-ghost use Rattle.std.specs.Prelude.{◌≡◌, ◌++◌, ◌+◌, ◌%◌, leb, length};
+ghost use Rattle.std.specs.Prelude.{◌≡◌, ◌++◌, ◌+◌, ◌≤◌, ◌%◌, leb, length};
 ghost use Rattle.printing.specs.Printing.{decimal, DigitsSuffice, signed, two_digits, hundredths};
 ghost use Rattle.printing.specs.Printer.{Prints};
 
-use itoa::{Buffer, Integer};
+use itoa::Buffer;
 
 // A lent buffer, and the place in it that is printed to next. It is made by its literal, which a `new` would have to promise field by field.
 #[derive(Drop)]
@@ -17,6 +17,7 @@ pub struct Printer<'a> {
 
 impl Printer<'_> {
     // Whether `count` bytes have room.
+    #[inline(always)]
     fn has_room(&self, count: usize) -> bool
         ensures { result ≡ leb (self.now.at + count) (length self.now.out.now) }
     {
@@ -24,6 +25,7 @@ impl Printer<'_> {
     }
 
     // The bytes from the place on; nothing is put where they do not fit.
+    #[inline(always)]
     pub fn put_bytes(&mut self, bytes: &[u8])
         ensures { Prints self.old bytes.now self.new }
     {
@@ -38,35 +40,50 @@ impl Printer<'_> {
         }
     }
 
-    // A word and the bytes after it, as one: nothing is put where both do not fit.
-    fn put_both(&mut self, word: &[u8], bytes: &[u8])
-        ensures { Prints self.old (word.now ++ bytes.now) self.new }
+    // A word, a sign of at most one byte and the bytes after them, as one: nothing is put where they do not all fit.
+    #[inline(always)]
+    fn put_signed(&mut self, word: &[u8], sign: &[u8], bytes: &[u8])
+        requires { length sign.now ≤ 1 }
+        ensures { Prints self.old (word.now ++ (sign.now ++ bytes.now)) self.new }
     {
-        if self.has_room(word.len() + bytes.len()) {
+        if self.has_room(word.len() + sign.len() + bytes.len()) {
             self.put_bytes(word);
+            self.put_bytes(sign);
             self.put_bytes(bytes);
         }
     }
 
-    // The same of a number.
-    fn put_number<I: Integer>(&mut self, word: &[u8], n: I)
-        ensures { Prints self.old (word.now ++ I.text n) self.new }
+    // A word and the bytes after it.
+    #[inline(always)]
+    fn put_both(&mut self, word: &[u8], bytes: &[u8])
+        ensures { Prints self.old (word.now ++ bytes.now) self.new }
     {
-        let mut buffer = Buffer::new();
-        self.put_both(word, buffer.format(n).as_bytes());
+        self.put_signed(word, b"", bytes);
     }
 
-    // This and the next are the generic one under the paper's `decimal` and `signed`: the generic one's promise is in the kit's `I.text`.
+    // A word, a sign and a number's digits. (Its promise is in the paper's `decimal`, the kit's in `I.text`.)
+    #[inline(always)]
+    fn put_number(&mut self, word: &[u8], sign: &[u8], n: u64)
+        requires { length sign.now ≤ 1 }
+        ensures { Prints self.old (word.now ++ (sign.now ++ decimal n)) self.new }
+    {
+        let mut buffer = Buffer::new();
+        self.put_signed(word, sign, buffer.format(n).as_bytes());
+    }
+
+    #[inline(always)]
     pub fn put_field(&mut self, word: &[u8], n: u64)
         ensures { Prints self.old (word.now ++ decimal n) self.new }
     {
-        self.put_number(word, n);
+        self.put_number(word, b"", n);
     }
 
+    #[inline(always)]
     pub fn put_sum(&mut self, word: &[u8], z: i64)
         ensures { Prints self.old (word.now ++ signed z) self.new }
     {
-        self.put_number(word, z);
+        let sign: &[u8] = if z < 0 { b"-" } else { b"" };
+        self.put_number(word, sign, z.unsigned_abs());
     }
 
     // The last two digits of a number.

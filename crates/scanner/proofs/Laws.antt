@@ -1,9 +1,12 @@
 -- What is read is taken from the front of the text, and the rest is its end: for those who cite specs/Scanner.antt. Assumes nothing.
-use Rattle.std.proofs.Common.{◌≡◌, ℕ, suc, ◌+◌, ◌-◌, ◌≤◌, Bool, true, false, cond, leb, eqb, List, [], ◌∷◌, ◌++◌, length, drop, length-append, length-drop, refl, arith}
-use borrow.Author.Tests.{leb-true}
-use Rattle.std.proofs.lemmas.Bool.{and_parts}
+use Rattle.std.proofs.Common.{◌≡◌, ℕ, suc, ◌+◌, ◌-◌, ◌≤◌, Bool, true, false, cond, leb, eqb, ltb, List, [], ◌∷◌, ◌++◌, length, drop, length-append, length-drop, refl, arith}
+use borrow.Author.Tests.{leb-true, lt-ltb}
+use Rattle.std.proofs.lemmas.Bool.{and_parts, cond-true, ltb-false}
 use Rattle.std.proofs.lemmas.List.{drop-drop}
+use Rattle.calendar.proofs.Sums.{decide}
 use Rattle.scanner.specs.Scanner.{bytes, Read, got, broken, then, feed, read_line, after_prefix, read_value, is_number, value_from, read_number, is_date_form, date_value, read_date}
+use Rattle.scanner.specs.Values.{short, number_line}
+use Rattle.scanner.proofs.Numbers.{long-no-number}
 
 -- by cases of what is read
 pub by_read : {Z : Type 0} {A : Type 0} (x : Read A) → ((a : A) (r : List ℕ) → x ≡ got a r → Z) → (x ≡ broken → Z) → Z
@@ -110,3 +113,66 @@ module _ (key s : List ℕ) where
   date-taken =
       then-taken _ s _ (read_value key s) _ value-taken (λ v r h.
       tested-taken _ s (is_date_form v) (date_value v) r (λ t. rest-fewer h (omega arith)))
+
+-- ---- a value, its key, the equals sign and the line feed are all that is taken
+
+abbrev pub Split : List ℕ → ℕ → Read (List ℕ) → Type 0
+Split s n (got l r) = length s ≡ length l + (length r + n)
+Split s n broken = Unit
+
+split-turn : (b : ℕ) (s : List ℕ) (t : Bool) (x : Read (List ℕ)) → Split s 1 x → Split (b ∷ s) 1 (cond t (got [] s) (then x (λ (l r : List ℕ). got (b ∷ l) r)))
+split-turn b s true x h = omega arith
+split-turn b s false (got l r) h = omega arith
+split-turn b s false broken h = tt
+
+line-split : (s : List ℕ) → Split s 1 (read_line s)
+unfolding read_line
+line-split [] = tt
+line-split (b ∷ s) = split-turn b s (eqb b feed) (read_line s) (line-split s)
+
+abbrev Rest : List ℕ → List ℕ → Read (List ℕ) → Type 0
+Rest p s (got r none) = length s ≡ length p + length r
+Rest p s broken = Unit
+
+rest-turn : (c b : ℕ) (p s : List ℕ) (t : Bool) (x : Read (List ℕ)) → Rest p s x → Rest (c ∷ p) (b ∷ s) (cond t x broken)
+rest-turn c b p s true (got r none) h = omega arith
+rest-turn c b p s true broken h = tt
+rest-turn c b p s false x h = tt
+
+after-rest : (p s : List ℕ) → Rest p s (after_prefix p s)
+unfolding after_prefix
+after-rest [] s = omega arith
+after-rest (c ∷ p) [] = tt
+after-rest (c ∷ p) (b ∷ s) = rest-turn c b p s (eqb c b) (after_prefix p s) (after-rest p s)
+
+module _ (key s : List ℕ) where
+  value_line : (rest : List ℕ) (x : Read (List ℕ)) → length s ≡ length (key ++ bytes "=") + length rest → Split rest 1 x → Split s (length key + 2) x
+  value_line rest (got v r) h g = omega (arith, length-append key (bytes "="))
+  value_line rest broken h g = tt
+
+  value-rest : (x : Read (List ℕ)) → Rest (key ++ bytes "=") s x → Split s (length key + 2) (then x (λ (rest none : List ℕ). read_line rest))
+  value-rest (got rest none) h = value_line rest (read_line rest) h (line-split rest)
+  value-rest broken h = tt
+
+  pub value-split : Split s (length key + 2) (read_value key s)
+  unfolding read_value
+  value-split = value-rest (after_prefix (key ++ bytes "=") s) (after-rest (key ++ bytes "=") s)
+
+-- ---- the lines that are short enough
+
+short-fits : (s : List ℕ) (x : Read (List ℕ)) → Taken (λ l. length l + 1) s x → short (length s) x ≡ x
+short-fits s (got v r) h = cond-true _ _ _ (lt-ltb (length v) (length s) (let l = h.least in let w = h.within in omega arith))
+short-fits s broken h = refl
+
+-- a line and its line feed are part of the text
+pub line_short : (s : List ℕ) → short (length s) (read_line s) ≡ read_line s
+line_short s = short-fits s (read_line s) (line-taken s)
+
+short-number : (x : Read (List ℕ)) → then x (λ (v r : List ℕ). cond (is_number v) (got (value_from 0 v) r) broken) ≡ then (short 11 x) (λ (v r : List ℕ). cond (is_number v) (got (value_from 0 v) r) broken)
+short-number (got v r) = decide (ltb (length v) 11) (λ t. simp t) (λ t. simp (t, long-no-number v (ltb-false _ _ t)))
+short-number broken = refl
+
+-- a number and its line feed have eleven bytes at most
+pub number_short : (s : List ℕ) → number_line s ≡ then (short 11 (read_line s)) (λ (v r : List ℕ). cond (is_number v) (got (value_from 0 v) r) broken)
+unfolding number_line
+number_short s = short-number (read_line s)

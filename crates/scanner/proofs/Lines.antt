@@ -1,5 +1,5 @@
 -- A line, its key and its value, by what std's methods find of them. Assumes nothing.
-use Rattle.std.proofs.Common.{◌≡◌, ℕ, suc, ◌+◌, ◌-◌, Bool, cond, true, false, ltb, eqb, ◌&&◌, not, Some, None, List, [], ◌∷◌, ◌++◌, length, take, drop, refl, sym, ◌∙◌, arith}
+use Rattle.std.proofs.Common.{◌≡◌, ℕ, zero, suc, ◌+◌, ◌-◌, Bool, cond, true, false, ltb, eqb, ◌&&◌, not, Some, None, List, [], ◌∷◌, ◌++◌, length, take, drop, refl, sym, ◌∙◌, arith}
 use Rattle.std.specs.List.{position_or_len, position}
 use Rattle.std.specs.Cmp.Lexicographic.{pointwise}
 use Rattle.std.proofs.lemmas.Bool.{cond-true, cond-false}
@@ -9,13 +9,14 @@ use Rattle.std.proofs.lemmas.Option.{cond_some}
 use borrow.Author.Tests.{lt-ltb}
 use lib.Dec.{leb-suc-suc}
 use native.Mathlib.Numerals.{unary_clauses}
-use Rattle.scanner.specs.Scanner.{bytes, Read, got, broken, then, read_line, after_prefix, read_value}
+use Rattle.scanner.specs.Scanner.{bytes, Read, got, broken, then, read_line, after_prefix}
+use Rattle.scanner.specs.Values.{after_key, short}
 
 -- ---- the first line feed
 
--- the line that ends at a place, if that is in the text
-abbrev line : List ℕ → ℕ → Read (List ℕ)
-line s n = cond (ltb n (length s)) (got (take n s) (drop (n + 1) s)) broken
+-- the line that ends at a place, if that is one of the bytes in which it is looked for
+abbrev line : List ℕ → List ℕ → ℕ → Read (List ℕ)
+line looked s n = cond (ltb n (length looked)) (got (take n s) (drop (n + 1) s)) broken
 
 abbrev first : List ℕ → ℕ
 first s = position_or_len (λ b. eqb b 10) s
@@ -24,17 +25,29 @@ longer : (b : ℕ) (t : Bool) (l r : List ℕ) → then (cond t (got l r) broken
 longer b true l r = refl
 longer b false l r = refl
 
-line-turn : (b n : ℕ) (s : List ℕ) → then (line s n) (λ (l r : List ℕ). got (b ∷ l) r) ≡ line (b ∷ s) (1 + n)
-line-turn b n s = let e : 1 + n ≡ suc n = omega arith in rw e (simp (unary_clauses, leb-suc-suc) (longer b (ltb n (length s)) (take n s) (drop (suc n) s)))
+line-turn : (b n : ℕ) (looked s : List ℕ) → then (line looked s n) (λ (l r : List ℕ). got (b ∷ l) r) ≡ line (b ∷ looked) (b ∷ s) (1 + n)
+line-turn b n looked s = let e : 1 + n ≡ suc n = omega arith in rw e (simp (unary_clauses, leb-suc-suc) (longer b (ltb n (length looked)) (take n s) (drop (suc n) s)))
 
-feed-turn : (t : Bool) (b : ℕ) (s : List ℕ) (x : Read (List ℕ)) (n : ℕ) → x ≡ line (b ∷ s) (1 + n) → cond t (got [] s) x ≡ line (b ∷ s) (cond (not t) (1 + n) 0)
-feed-turn true b s x n h = simp (lt-ltb 0 (length (b ∷ s)) (omega arith))
-feed-turn false b s x n h = h
+feed-turn : (t : Bool) (b : ℕ) (looked s : List ℕ) (x : Read (List ℕ)) (n : ℕ) → x ≡ line (b ∷ looked) (b ∷ s) (1 + n) → cond t (got [] s) x ≡ line (b ∷ looked) (b ∷ s) (cond (not t) (1 + n) 0)
+feed-turn true b looked s x n h = simp (lt-ltb 0 (length (b ∷ looked)) (omega arith))
+feed-turn false b looked s x n h = h
 
-line-first : (s : List ℕ) → read_line s ≡ line s (first s)
+-- a byte before a line makes it one longer
+short-turn : (most b : ℕ) (t : Bool) (s : List ℕ) (x : Read (List ℕ))
+    → short (suc most) (cond t (got [] s) (then x (λ (l r : List ℕ). got (b ∷ l) r))) ≡ cond t (got [] s) (then (short most x) (λ (l r : List ℕ). got (b ∷ l) r))
+short-turn most b true s x = simp (lt-ltb 0 (suc most) (omega arith))
+short-turn most b false s (got l r) = simp leb-suc-suc (sym (longer b (ltb (length l) most) l r))
+short-turn most b false s broken = refl
+
+short-none : (x : Read (List ℕ)) → short 0 x ≡ broken
+short-none (got l r) = cond-false (ltb (length l) 0) _ _ (grind (arith, nat_tests))
+short-none broken = refl
+
+line-first : (most : ℕ) (s : List ℕ) → short most (read_line s) ≡ line (take most s) s (first (take most s))
 unfolding read_line
-line-first [] = refl
-line-first (b ∷ s) = feed-turn (eqb b 10) b s _ (first s) (rw (line-first s) (line-turn b (first s) s))
+line-first zero s = short-none (read_line s)
+line-first (suc most) [] = refl
+line-first (suc most) (b ∷ s) = short-turn most b (eqb b 10) s (read_line s) ∙ feed-turn (eqb b 10) b (take most s) s _ (first (take most s)) (rw (line-first most s) (line-turn b (first (take most s)) (take most s) s))
 
 pub cond_none : (t : Bool) (n : ℕ) → None ≡ cond t (Some n) None → t ≡ false
 cond_none true n h = absurd (cc)
@@ -59,27 +72,25 @@ after_strip [] q s = refl
 after_strip (b ∷ p) q [] = refl
 after_strip (b ∷ p) q (c ∷ s) = rw (eqb_comm b c) (byte-turn (eqb c b) (starts p s) _ _ (after_strip p q s))
 
--- ---- the value
-
 module _ (key s : List ℕ) where
-  pub no-key : starts key s ≡ false → read_value key s ≡ broken
-  unfolding read_value
+  pub no-key : starts key s ≡ false → after_key key s ≡ broken
   no-key h = simp (after_strip key (bytes "=") s, h)
 
   module _ (t : List ℕ) (h : starts key s ≡ true) (e : t ≡ drop (length key) s) where
-    pub no-equals : starts (bytes "=") t ≡ false → read_value key s ≡ broken
-    unfolding read_value
+    pub no-equals : starts (bytes "=") t ≡ false → after_key key s ≡ broken
     no-equals g = simp (after_strip key (bytes "=") s, h, ← e, after_strip (bytes "=") [] t, g)
 
-    module _ (v : List ℕ) (g : starts (bytes "=") t ≡ true) (f : v ≡ drop 1 t) where
-      by_line : read_value key s ≡ line v (first v)
-      unfolding read_value after_prefix
-      by_line = simp (after_strip key (bytes "=") s, h, ← e, after_strip (bytes "=") [] t, g, ← f) (line-first v)
+    pub equals : (v : List ℕ) → starts (bytes "=") t ≡ true → v ≡ drop 1 t → after_key key s ≡ got v []
+    unfolding after_prefix
+    equals v g f = simp (after_strip key (bytes "=") s, h, ← e, after_strip (bytes "=") [] t, g, ← f)
 
-      pub no-feed : None ≡ position (λ b. eqb b 10) v → read_value key s ≡ broken
-      no-feed i = by_line ∙ cond-false _ _ _ (cond_none _ _ i)
+pub ruleset key_steps = (no-key, no-equals, equals)
 
-      pub value-line : (n : ℕ) → Some n ≡ position (λ b. eqb b 10) v → read_value key s ≡ got (take n v) (take (length v - (n + 1)) (drop (n + 1) v))
-      value-line n i = let p = cond_some _ _ _ (sym i) in rw (take_rest, ← p.1) (by_line ∙ cond-true _ _ _ p.0)
+-- ---- the line feed, in the bytes in which it is looked for
 
-pub ruleset value_steps = (no-key, no-equals)
+module _ (most : ℕ) (s looked : List ℕ) (k : looked ≡ take most s) where
+  pub no-feed : None ≡ position (λ b. eqb b 10) looked → short most (read_line s) ≡ broken
+  no-feed i = let j : None ≡ position (λ b. eqb b 10) (take most s) = rw (← k) i in line-first most s ∙ cond-false _ _ _ (cond_none _ _ j)
+
+  pub feed-at : (n : ℕ) → Some n ≡ position (λ b. eqb b 10) looked → short most (read_line s) ≡ got (take n s) (take (length s - (n + 1)) (drop (n + 1) s))
+  feed-at n i = let j : position (λ b. eqb b 10) (take most s) ≡ Some n = rw (← k) (sym i) in let p = cond_some _ _ _ j in rw (take_rest, ← p.1) (line-first most s ∙ cond-true _ _ _ p.0)

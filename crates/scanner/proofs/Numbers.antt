@@ -1,9 +1,11 @@
 -- The digits of a number, one by one. Assumes nothing.
-use Rattle.std.proofs.Common.{◌≡◌, ℕ, ◌+◌, ◌-◌, ◌*◌, ◌<◌, ◌≤◌, true, Some, None, List, [], ◌∷◌, length, get_or, drop, sym, arith, add-one, drop-cons}
+use Rattle.std.proofs.Common.{◌≡◌, ℕ, zero, suc, ◌+◌, ◌-◌, ◌*◌, ◌<◌, ◌≤◌, Bool, true, false, not, leb, eqb, ◌||◌, refl, Some, None, List, [], ◌∷◌, length, get_or, drop, sym, arith, add-one, drop-cons}
 use mathlib.Core.Bool.{and-false}
-use borrow.Author.Tests.{le-leb, lt-leb}
+use borrow.Author.Tests.{le-leb, lt-leb, leb-true}
+use Rattle.std.proofs.lemmas.Bool.{and_parts}
+use Rattle.std.proofs.lemmas.Bool.Decides.{nat_tests}
 use lib.ListN.{drop_of_length-le}
-use Rattle.scanner.specs.Scanner.{is_digit, all_digits, value_from, max_number}
+use Rattle.scanner.specs.Scanner.{is_digit, all_digits, value_from, max_number, is_number}
 use Rattle.std.proofs.lemmas.Option.{cond_some}
 use Rattle.scanner.specs.Values.{digit_of, decimal}
 use Rattle.scanner.proofs.Lines.{cond_none}
@@ -18,6 +20,42 @@ value_grows : (n : ℕ) (s : List ℕ) → n ≤ value_from n s
 unfolding value_from
 value_grows n [] = omega arith
 value_grows n (b ∷ s) = let h = value_grows (n * 10 + (b - 48)) s in omega arith
+
+-- n with so many zeros behind it
+abbrev tens : ℕ → ℕ → ℕ
+tens n zero = n
+tens n (suc k) = tens (n * 10) k
+
+tens_grow : (k : ℕ) {n m : ℕ} → n ≤ m → tens n k ≤ tens m k
+tens_grow zero h = h
+tens_grow (suc k) {n} {m} h = tens_grow k (omega arith)
+
+value-tens : (k n : ℕ) (s : List ℕ) → k ≤ length s → tens n k ≤ value_from n s
+unfolding value_from
+value-tens zero n s h = value_grows n s
+value-tens (suc k) n [] h = absurd (omega arith)
+value-tens (suc k) n (b ∷ s) h =
+    let f : tens (n * 10) k ≤ tens (n * 10 + (b - 48)) k = tens_grow k (omega arith) in
+    let g = value-tens k (n * 10 + (b - 48)) s (omega arith) in
+    omega arith
+
+-- eleven digits without a leading zero make a number above the largest
+long : (t : Bool) (v : List ℕ) → 11 ≤ length v → is_number v ≡ t → t ≡ false
+unfolding is_number all_digits value_from
+long false v h e = refl
+long true [] h e = absurd (omega arith)
+long true (b ∷ s) h e =
+    let p = and_parts (leb 1 (length (b ∷ s))) _ e in
+    let q = and_parts (all_digits (b ∷ s)) _ p.1 in
+    let r = and_parts (eqb (length (b ∷ s)) 1 || not (eqb b 48)) _ q.1 in
+    let d : 1 ≤ 0 * 10 + (b - 48) = grind (arith, nat_tests) in
+    let f : 10000000000 ≤ tens (0 * 10 + (b - 48)) 10 = tens_grow 10 d in
+    let g : tens (0 * 10 + (b - 48)) 10 ≤ value_from (0 * 10 + (b - 48)) s = value-tens 10 (0 * 10 + (b - 48)) s (omega arith) in
+    let m : value_from (0 * 10 + (b - 48)) s ≤ max_number = leb-true _ _ r.1 in
+    absurd (omega arith)
+
+pub long-no-number : (v : List ℕ) → 11 ≤ length v → is_number v ≡ false
+long-no-number v h = long (is_number v) v h refl
 
 module _ (v : List ℕ) (i n : ℕ) (g : GoesOn v i n) where
   module _ (h : i < length v) where

@@ -5,21 +5,39 @@
 #![tactic(auto)]
 
 ghost use Rattle.std.specs.Prelude.{◌≡◌};
-ghost use Rattle.scanner.specs.Scanner.{IsRead, IsValueRead, read_value, number_of, read_number, read_date};
-ghost use Rattle.scanner.specs.Values.{digit_of, decimal, two_digits_of, date_of};
+ghost use Rattle.scanner.specs.Scanner.{IsRead, IsValueRead, read_line, read_value, number_of, read_number, read_date};
+ghost use Rattle.scanner.specs.Values.{IsAfter, after_key, short, number_line, digit_of, decimal, two_digits_of, date_of};
 
 use calendar::Date;
 
 // ---- lines
 
+// What stands after the key and the equals sign. It is inlined, so that a key is compared by its own length.
+#[inline(always)]
+#[tactic(auto, using(crate::proofs::Lines::key_steps))]
+fn after_key<'a>(text: &'a [u8], key: &[u8]) -> Option<&'a [u8]>
+    ensures { IsAfter (after_key key.now text.now) result }
+{
+    text.strip_prefix(key)?.strip_prefix(b"=")
+}
+
+// The first line, where its line feed is one of the first `most` bytes, and what follows it: no more bytes are looked at.
+fn read_line(rest: &[u8], most: usize) -> Option<(&[u8], &[u8])>
+    ensures { IsValueRead (short most (read_line rest.now)) result }
+{
+    let end = rest[..most.min(rest.len())]
+        .iter()
+        .position(|byte| *byte == b'\n')?;
+    Some((&rest[..end], &rest[end + 1..]))
+}
+
 // The value of the first line, whose key this is to be.
-#[tactic(auto, using(crate::proofs::Lines::value_steps))]
+#[tactic(auto, using(crate::proofs::Laws::line_short), unfolding(crate::specs::Scanner::read_value))]
 pub fn read_value<'a>(text: &'a [u8], key: &[u8]) -> Option<(&'a [u8], &'a [u8])>
     ensures { IsValueRead (read_value key.now text.now) result }
 {
-    let rest = text.strip_prefix(key)?.strip_prefix(b"=")?;
-    let end = rest.iter().position(|byte| *byte == b'\n')?;
-    Some((&rest[..end], &rest[end + 1..]))
+    let rest = after_key(text, key)?;
+    read_line(rest, rest.len())
 }
 
 // ---- numbers
@@ -54,12 +72,26 @@ pub fn number_of(value: &[u8]) -> Option<u32>
     }
 }
 
-#[tactic(auto, unfolding(crate::specs::Scanner::read_number, crate::specs::Scanner::number_of))]
+// A number has at most ten digits, so its line feed is one of eleven bytes.
+const NUMBER_ROOM: usize = 11;
+
+// The number that the first line is, and what follows it. A longer line is refused without looking for its end.
+// It is not inlined: in the reading of an event's fields its loops would be laid out worse.
+#[inline(never)]
+#[tactic(auto, using(crate::proofs::Laws::number_short), unfolding(crate::specs::Values::number_line, crate::specs::Scanner::number_of))]
+fn number_line(rest: &[u8]) -> Option<(u32, &[u8])>
+    ensures { IsRead (number_line rest.now) result }
+{
+    let (value, rest) = read_line(rest, NUMBER_ROOM)?;
+    Some((number_of(value)?, rest))
+}
+
+#[inline(always)]
+#[tactic(auto, unfolding(crate::specs::Values::number_line, crate::specs::Scanner::read_number, crate::specs::Scanner::read_value))]
 pub fn read_number<'a>(text: &'a [u8], key: &[u8]) -> Option<(u32, &'a [u8])>
     ensures { IsRead (read_number key.now text.now) result }
 {
-    let (value, rest) = read_value(text, key)?;
-    Some((number_of(value)?, rest))
+    number_line(after_key(text, key)?)
 }
 
 // ---- dates
@@ -87,7 +119,7 @@ fn date_of(value: &[u8]) -> Option<Date>
     Some(Date { year, month, day })
 }
 
-// Two lines as in `read_number`: one function over the conversion would be no shorter, and its contract would speak of a closure's.
+// One function over the conversion, for numbers and dates, would be no shorter, and its contract would speak of a closure's.
 #[tactic(auto, unfolding(crate::specs::Scanner::read_date, crate::specs::Values::date_of))]
 pub fn read_date<'a>(text: &'a [u8], key: &[u8]) -> Option<(Date, &'a [u8])>
     ensures { IsRead (read_date key.now text.now) result }

@@ -1,10 +1,10 @@
 -- The lines by the account's step and the reading calls are the ledger's, for an account that stands for the ledger. Assumes nothing.
-use Prim.Native.Nat.{ℕ, zero, suc, ◌+◌, ◌-◌, ◌≤◌}
+use Prim.Native.Nat.{ℕ, zero, suc, ◌+◌, ◌-◌}
 use mathlib.Core.Path.{◌≡◌, refl, sym, ap, ap₂, ◌∙◌}
 use mathlib.Core.Bool.{Bool, true, false, cond}
 use mathlib.Core.List.{List, [], ◌∷◌, ◌++◌}
 use native.Mathlib.Omega.{arith}
-use lib.ListN.{length, drop, length-drop}
+use lib.ListN.{length, drop}
 use lib.Dec.{ltb}
 use Rattle.terms.specs.Terms.{valid_terms, terms_code, zero_terms}
 use Rattle.terms.specs.declared.Terms.{Terms}

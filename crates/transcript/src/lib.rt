@@ -111,13 +111,19 @@ impl Progress {
     pub fn begin(text: &[u8]) -> Progress
         ensures { Begun text.now (reached result 0) }
     {
-        match text::terms_in(text) {
+        // In one place, so that the account is made once, where it stays; `account::open` would make one more.
+        let (terms, at, code) = match text::terms_in(text) {
             Some((terms, rest)) => {
-                let code = ledger::code(account::open(terms));
-                Progress::start(terms, text.len() - rest.len(), code)
+                let code = if terms.is_valid() {
+                    0
+                } else {
+                    u8::from(Refusal::Terms)
+                };
+                (terms, text.len() - rest.len(), code)
             }
-            None => Progress::start(Terms::default(), 0, u8::from(Refusal::Form)),
-        }
+            None => (Terms::default(), 0, u8::from(Refusal::Form)),
+        };
+        Progress::start(terms, at, code)
     }
 
     // The lines of the events, while there is room for one and for the last line, and the last line.
