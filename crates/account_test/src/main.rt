@@ -9,22 +9,17 @@ ghost use Rattle.posting.specs.Posting.{PostsRow};
 
 use account::Account;
 use calendar::Date;
-use ledger::{Event, Refusal, code};
+use ledger::{Answer, Event, Refusal, code};
 use moves::Totals;
 use std::io;
 use std::io::Read;
 use terms::Terms;
 
-// How often an event is posted: once, n times, or once with each payment number, and usage day, from 0 to n - 1.
-#[derive(Clone, Copy)]
-enum Way {
-    Once,
-    Times(u32),
-    Each(u32),
-}
+// A line's words and numbers by their places: its word, an event's nine numbers, a second word and its number, and one that nothing asks for.
+type Places = [u32; 13];
 
-// The words of the sorts, 1 to 12.
-const SORTS: [&str; 12] = [
+// The words of the sorts, 1 to 11.
+const SORTS: [&str; 11] = [
     "pay",
     "reverse",
     "credit",
@@ -36,23 +31,56 @@ const SORTS: [&str; 12] = [
     "plan",
     "disconnect",
     "connect",
-    "price",
 ];
+
+// The sort of `price`.
+const PRICE: u32 = 12;
+
+// A sort that no event has.
+const NO_SORT: u32 = 99;
+
+// The code that is said where the codes of several events differ.
+const NO_CODE: u8 = 99;
 
 // ---- what a line says
 
-// The first numbers of a line; 0 for what is no number of 32 bits, and past the line's end, so that a line may leave out the fields that its sort
-// does not name.
-fn numbers<const N: usize>(line: &str) -> [u32; N] {
-    let mut numbers = [0; N];
-    for (number, word) in numbers.iter_mut().zip(line.split_ascii_whitespace()) {
-        *number = word.parse::<u32>().unwrap_or(0);
+// The word or number with one byte more: of a word its first three letters, of a number as many digits as 32 bits have.
+fn with_byte(n: u32, byte: u8) -> u32 {
+    match byte {
+        b'a'.. if n < 65536 => n * 256 + u32::from(byte),
+        b'0'..=b'9' => {
+            let digit = u32::from(byte - b'0');
+            let longer = n.checked_mul(10).and_then(|tens| tens.checked_add(digit));
+            longer.unwrap_or(n)
+        }
+        _ => n,
+    }
+}
+
+// A word or a number as a number; 0 of neither. A word is known by its first three letters.
+fn number_of(word: &[u8]) -> u32 {
+    word.iter().fold(0, |n, byte| with_byte(n, *byte))
+}
+
+// A second word has the place 10, a number the place after the one before it: a line may leave out the fields that its sort does not name, which
+// are 0. (calendar_test has the like for its numbers: a crate for the two would be no shorter.)
+fn numbers(part: &[u8]) -> Places {
+    let mut numbers = [0; 13];
+    let mut at = 0;
+    for (i, word) in part.split(|byte| *byte == b' ').enumerate() {
+        at = match word {
+            [] => continue,
+            _ if i == 0 => 0,
+            [(b'a'..), ..] => 10,
+            _ => at % 12 + 1,
+        };
+        numbers[at] = number_of(word);
     }
     numbers
 }
 
-fn terms(line: &str) -> Terms {
-    let [year, month, day, price, connect, cutoff, share] = numbers::<7>(line);
+fn terms(numbers: Places) -> Terms {
+    let [_, year, month, day, price, connect, cutoff, share, ..] = numbers;
     Terms {
         opened: Date { year, month, day },
         price,
@@ -63,8 +91,8 @@ fn terms(line: &str) -> Terms {
 }
 
 // An event of any sort and fields.
-fn any_event(line: &str) -> Event {
-    let [sort, day, amount, number, kind, usage, wh, from, to] = numbers::<9>(line);
+fn any_event(numbers: Places) -> Event {
+    let [_, sort, day, amount, number, kind, usage, wh, from, to, ..] = numbers;
     Event {
         sort,
         day,
@@ -80,8 +108,8 @@ fn any_event(line: &str) -> Event {
 
 // An event of a named sort, of its day and the numbers after it. A number is given to every field that it is for some sort: an event is
 // judged by the fields of its own sort alone.
-fn named_event(sort: u32, line: &str) -> Event {
-    let [day, first, second, third] = numbers::<4>(line);
+fn named_event(sort: u32, numbers: Places) -> Event {
+    let [_, day, first, second, third, ..] = numbers;
     Event {
         sort,
         day,
@@ -95,31 +123,32 @@ fn named_event(sort: u32, line: &str) -> Event {
     }
 }
 
-// The event that a line's words and numbers name, if they do.
-fn event(word: &str, line: &str) -> Option<Event> {
-    if word == "event" {
-        return Some(any_event(line));
+// The sort that a line's word names. `price` is known by the whole word: another that begins so is no sort.
+fn sort_of(part: &[u8], word: u32) -> u32 {
+    if part.starts_with(b"price ") {
+        return PRICE;
     }
-    let place = SORTS.iter().position(|sort| *sort == word)?;
-    // a place below 12: usize has no `From` into u32
-    Some(named_event(place as u32 + 1, line))
+    let place = SORTS
+        .iter()
+        .position(|sort| number_of(sort.as_bytes()) == word);
+    match place {
+        // a place below 11: usize has no `From` into u32
+        Some(place) => place as u32 + 1,
+        None => NO_SORT,
+    }
 }
 
-fn way_of(line: &str) -> Way {
-    if let Some((_, n)) = line.split_once(" times ") {
-        let [n] = numbers::<1>(n);
-        return Way::Times(n);
+fn event(part: &[u8], numbers: Places) -> Event {
+    let [word, ..] = numbers;
+    if word == number_of(b"event") {
+        return any_event(numbers);
     }
-    if let Some((_, n)) = line.split_once(" each ") {
-        let [n] = numbers::<1>(n);
-        return Way::Each(n);
-    }
-    Way::Once
+    named_event(sort_of(part, word), numbers)
 }
 
 // The totals that are asked: after a refusal those before it; an accepted event counts once, by its day, and as a payment if it is a pay.
-fn asked(answer: Result<u64, Refusal>, e: Event, before: Totals, after: Totals) -> Totals {
-    if answer.is_err() {
+fn asked(answer: Answer, e: Event, before: Totals, after: Totals) -> Totals {
+    if answer.code != 0 {
         return before;
     }
     Totals {
@@ -192,59 +221,55 @@ impl<P: Print> Line<'_, P> {
         self.compare(Totals::default())
     }
 
-    // One event is posted by value, and is held to its value too, and to the totals after it.
-    fn post_once(&mut self, e: Event) -> io::Result<()> {
-        let before = self.account.totals;
-        let p = posting::post_by_value(*self.account, e);
-        *self.account = p.account;
-        if !self.is_case {
-            return Ok(());
-        }
-        print!(self.rt; " {} {}", code(p.answer), p.answer.unwrap_or(0))?;
-        self.say_sums()?;
-        self.compare(asked(p.answer, e, before, self.account.totals))
-    }
-
-    // Posts n events, and one at least. What is said is the code, or that the codes differ, which no line asks; and the balance and the plan
-    // after the last.
-    fn post_often<F: Fn(u32) -> Event>(&mut self, n: u32, event: F) -> io::Result<()>
+    // Posts n events, and one at least, the first by value. The answer has the value of the last, and the code of all, or one that no line asks.
+    fn post_often<F: Fn(u32) -> Event>(&mut self, n: u32, event: F) -> Answer
         requires { F.IsAlwaysCallable event }
     {
-        let first = code(posting::post(self.account, event(0)));
-        let mut all_same = true;
+        let first = posting::post_by_value(*self.account, event(0));
+        *self.account = first.account;
+        let mut answer = Answer::from(first.answer);
         for i in 1..n {
-            let next = code(posting::post(self.account, event(i)));
-            all_same = all_same && next == first;
+            let next = Answer::from(posting::post(self.account, event(i)));
+            let code = if next.code == answer.code {
+                next.code
+            } else {
+                NO_CODE
+            };
+            answer = Answer { code, ..next };
         }
+        answer
+    }
+
+    // Posts the event as often as the line says, with `each` with each payment number, and usage day, from 0 on. Without a second word it is held
+    // to its value too, and to the totals after it.
+    fn post(&mut self, e: Event, numbers: Places) -> io::Result<()> {
+        let [.., way, times, _] = numbers;
+        let before = self.account.totals;
+        let answer = if way == number_of(b"each") {
+            let numbered = |i: u32| Event {
+                number: i,
+                usage: i,
+                ..e
+            };
+            self.post_often(times, numbered)
+        } else {
+            self.post_often(times, |_| e)
+        };
         if !self.is_case {
             return Ok(());
         }
-        if all_same {
-            print!(self.rt; " {first}")?;
-        } else {
-            print!(self.rt; " codes that differ")?;
+        print!(self.rt; " {}", answer.code)?;
+        if way != 0 {
+            return self.say_sums();
         }
-        self.say_sums()
-    }
-
-    fn post(&mut self, e: Event, way: Way) -> io::Result<()> {
-        match way {
-            Way::Once => self.post_once(e),
-            Way::Times(n) => self.post_often(n, |_| e),
-            Way::Each(n) => {
-                let numbered = |i: u32| Event {
-                    number: i,
-                    usage: i,
-                    ..e
-                };
-                self.post_often(n, numbered)
-            }
-        }
+        print!(self.rt; " {}", answer.value)?;
+        self.say_sums()?;
+        self.compare(asked(answer, e, before, self.account.totals))
     }
 
     // A row of five events or of none, and a buffer of so many bytes, 8 at most, each of them 7.
-    fn post_row(&mut self, line: &str) -> io::Result<()> {
-        let [events, bytes] = numbers::<2>(line);
+    fn post_row(&mut self, numbers: Places) -> io::Result<()> {
+        let [_, events, bytes, ..] = numbers;
         let mut buffer = [7; 8];
         // (by `as`: u32 has no `From` into usize)
         let Some(codes) = buffer.get_mut(..bytes as usize) else {
@@ -271,8 +296,8 @@ impl<P: Print> Line<'_, P> {
 fn one(rt: &impl Print, account: &mut Account, part: &[u8]) -> io::Result<()> {
     rt.write_all(part)?;
     let is_case = part.ends_with(b":");
-    let line = str::from_utf8(part).unwrap_or("").trim_end();
-    let (word, rest) = line.split_once(' ').unwrap_or((line, ""));
+    let numbers = numbers(part);
+    let [word, ..] = numbers;
     let mut line = Line {
         rt,
         account,
@@ -280,24 +305,24 @@ fn one(rt: &impl Print, account: &mut Account, part: &[u8]) -> io::Result<()> {
     };
     // Each word takes numbers of its own, so a `match` is plainer than a closure for each.
     match word {
-        "terms" => line.open(terms(rest)),
-        "row" => line.post_row(rest),
-        "totals" => line.say_readings(),
-        _ => match event(word, rest) {
-            Some(e) => line.post(e, way_of(rest)),
-            None => Ok(()),
-        },
+        0 => Ok(()),
+        _ if word == number_of(b"terms") => line.open(terms(numbers)),
+        _ if word == number_of(b"row") => line.post_row(numbers),
+        _ if word == number_of(b"totals") => line.say_readings(),
+        _ => line.post(event(part, numbers), numbers),
     }
 }
 
-// The cases are the first 65,536 bytes of standard input. (For these two lines a crate of the programs would be no
-// shorter.)
+// The cases are the parts of the first 65,536 bytes of standard input; a last one without its end is none. (For these two lines a crate of the
+// programs would be no shorter.)
 fn main(rt: HostRuntime) -> io::Result<()> {
     let mut text = Vec::new(rt.alloc());
     rt.reader().take(65536).read_to_end(&mut text)?;
     let mut account = Account::fresh(Terms::default());
     for part in text.split_inclusive(|byte| matches!(*byte, b'\n' | b':')) {
-        one(&rt, &mut account, part)?;
+        if matches!(part, [.., b'\n' | b':']) {
+            one(&rt, &mut account, part)?;
+        }
     }
     Ok(())
 }

@@ -15,6 +15,15 @@ fn number_of(d: Date) -> u64 {
     u64::from(d.year) * 10000 + u64::from(d.month) * 100 + u64::from(d.day)
 }
 
+// The date that such a number is, or is not.
+fn date(n: u32) -> Date {
+    Date {
+        year: n / 10000,
+        month: n / 100 % 100,
+        day: n % 100,
+    }
+}
+
 fn weekday_number(w: Option<Weekday>) -> u32 {
     w.map_or(NO_WEEKDAY, u32::from)
 }
@@ -53,8 +62,9 @@ impl<W: Write> Answers<'_, W> {
     }
 
     fn month(&mut self, m: u32) -> io::Result<()> {
-        let days = calendar::days_of(self.opened, m).unwrap_or(0..0);
-        write!(self.out, " {} {}", days.start, days.end)
+        let days = calendar::days_of(self.opened, m);
+        let (from, to) = days.map_or((0, 0), |days| (days.from, days.to));
+        write!(self.out, " {from} {to}")
     }
 
     fn all(&mut self, k: u32, d: Date, m: u32) -> io::Result<()> {
@@ -69,65 +79,62 @@ impl<W: Write> Answers<'_, W> {
     }
 }
 
-// The first numbers of a line, those of a date too; 0 for what is no number of 32 bits, and past the line's end: the questions are of any
-// numbers. (account_test has the like for its words: a crate for the two would be no shorter.)
-fn numbers<const N: usize>(line: &str) -> [u32; N] {
-    let mut numbers = [0; N];
-    for (number, word) in numbers.iter_mut().zip(line.split([' ', '-'])) {
-        *number = word.parse::<u32>().unwrap_or(0);
+// The number with one digit more, of nine at most; another byte, as the minus of a date, is passed over.
+fn with_digit(n: u32, byte: u8) -> u32 {
+    match byte {
+        b'0'..=b'9' => n % 100_000_000 * 10 + u32::from(byte - b'0'),
+        _ => n,
+    }
+}
+
+// The numbers that a line's five words are, 0 past the line's end: the questions are of any numbers. A sixth word goes on with the first's
+// number. (account_test has the like for its words: a crate for the two would be no shorter.)
+fn numbers(line: &[u8]) -> [u32; 5] {
+    let mut numbers = [0; 5];
+    for (i, word) in line.split(|byte| *byte == b' ').enumerate() {
+        let n = numbers[i % 5];
+        numbers[i % 5] = word.iter().fold(n, |n, byte| with_digit(n, *byte));
     }
     numbers
 }
 
-fn opening(line: &str) -> Date {
-    let [year, month, day] = numbers::<3>(line);
-    Date { year, month, day }
-}
-
-// Each question takes numbers of its own, so a `match` is plainer than a closure for each.
-fn ask(out: &mut impl Write, word: &str, line: &str) -> io::Result<()> {
-    let opened = opening(line);
+// A word is known by its first letter. Each question takes numbers of its own, so a `match` is plainer than a closure for each.
+fn ask(out: &mut impl Write, letter: u8, line: &[u8]) -> io::Result<()> {
+    let [_, opened, second, third, fourth] = numbers(line);
+    let opened = date(opened);
     let mut answers = Answers { out, opened };
-    match word {
-        "exists" => answers.exists(opened),
-        "day" => {
-            let [_, _, _, k] = numbers::<4>(line);
-            answers.day(k)
-        }
-        "number" => {
-            let [_, _, _, year, month, day] = numbers::<6>(line);
-            answers.number(Date { year, month, day })
-        }
-        "month" => {
-            let [_, _, _, m] = numbers::<4>(line);
-            answers.month(m)
-        }
-        _ => {
-            let [_, _, _, k, year, month, day, m] = numbers::<8>(line);
-            answers.all(k, Date { year, month, day }, m)
-        }
+    match letter {
+        b'e' => answers.exists(opened),
+        b'd' => answers.day(second),
+        b'n' => answers.number(date(second)),
+        b'm' => answers.month(second),
+        _ => answers.all(second, date(third), fourth),
     }
 }
 
 // The question, and the answers to it. A line that starts with `#` is a remark.
-fn one(out: &mut impl Write, line: &str) -> io::Result<()> {
-    if line.is_empty() || line.starts_with('#') {
-        return Ok(());
+fn one(out: &mut impl Write, line: &[u8]) -> io::Result<()> {
+    match line {
+        [] | [b'#', ..] => Ok(()),
+        [letter, ..] => {
+            out.write_all(line)?;
+            write!(out, ":")?;
+            ask(out, *letter, line)?;
+            writeln!(out)
+        }
     }
-    write!(out, "{line}:")?;
-    let (word, rest) = line.split_once(' ').unwrap_or((line, ""));
-    ask(out, word, rest)?;
-    writeln!(out)
 }
 
-// The questions are the lines of the first 65,536 bytes of standard input. (For these two lines a crate of the programs would be no
-// shorter.)
+// The questions are the lines of the first 65,536 bytes of standard input; a last one without its end is none. (For these two lines a crate of
+// the programs would be no shorter.)
 fn main(rt: HostRuntime) -> io::Result<()> {
     let mut text = Vec::new(rt.alloc());
     rt.reader().take(65536).read_to_end(&mut text)?;
     let mut out = BufWriter::new(rt.alloc(), io::writer(&rt))?;
-    for line in str::from_utf8(&text).unwrap_or("").lines() {
-        one(&mut out, line)?;
+    for line in text.split_inclusive(|byte| *byte == b'\n') {
+        if let Some(line) = line.strip_suffix(b"\n") {
+            one(&mut out, line)?;
+        }
     }
     out.flush()
 }

@@ -8,6 +8,7 @@
 
 use std::io;
 use std::io::{BufWriter, Read, Write};
+use text::MAX_TEXT;
 use transcript::TRANSCRIPT_ROOM;
 
 // A transcript; of a long one, its length and its last bytes.
@@ -34,12 +35,14 @@ fn short_buffer(to: &mut impl Write) -> io::Result<()> {
     writeln!(to, "{length} bytes")
 }
 
-// The lines and 4,675 times the piece.
+// The lines and 4,675 times the piece, but for the pieces that do not fit into one byte more than the longest text has.
 fn long(rt: &HostRuntime, to: &mut impl Write, lines: &[u8], piece: &[u8]) -> io::Result<()> {
     let mut text = Vec::new(rt.alloc());
     text.extend_from_slice(lines)?;
     for _ in 0..4675 {
-        text.extend_from_slice(piece)?;
+        if text.len().saturating_add(piece.len()) <= MAX_TEXT + 1 {
+            text.extend_from_slice(piece)?;
+        }
     }
     show(to, &text)
 }
