@@ -2,6 +2,7 @@
 use Rattle.std.specs.Prelude.{ℕ, zero, suc, ◌+◌, ◌*◌, ◌-◌, ◌/◌, ◌%◌, ◌≤◌, ◌<◌, ◌≡◌, Bool, true, cond, not, ◌&&◌, ◌||◌, [], ◌∷◌, ◌↔◌, get_or, ltb, leb, eqb, Option, Some, None}
 use Rattle.std.specs.declared.ops.Range.{Range}
 use Rattle.calendar.specs.declared.Date.{Date}
+use Rattle.calendar.specs.declared.Days.{Days}
 use Rattle.calendar.specs.declared.Weekday.{Weekday}
 use Rattle.calendar.specs.declared.Weekday.TheVariants.{Monday, Tuesday, Wednesday, Thursday, Friday, Saturday, Sunday}
 
@@ -163,6 +164,9 @@ pub record MonthDays (opened : Date) (m : ℕ) (r : Range ℕ) : Type 0 where
   pub days : (k : ℕ) → is_day opened k ≡ true → (month_from opened (date_on opened k) ≡ m) ↔ ((r.start ≤ k) × (k < r.end))
   pub open_is : opens opened ≡ true
 
-abbrev pub MonthAnswer : Date → ℕ → Option (Range ℕ) → Type 0
-MonthAnswer opened m (Some r) = MonthDays opened m r
+abbrev pub range_of : Days → Range ℕ
+range_of d = record { start = d.from; end = d.to }
+
+abbrev pub MonthAnswer : Date → ℕ → Option Days → Type 0
+MonthAnswer opened m (Some d) = MonthDays opened m (range_of d)
 MonthAnswer opened m None = (k : ℕ) → is_day opened k ≡ true → month_from opened (date_on opened k) ≡ m → ⊥

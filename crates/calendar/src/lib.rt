@@ -6,7 +6,7 @@ ghost use Rattle.std.specs.Prelude.{◌≡◌, true, ◌+◌, ◌-◌, ◌*◌, 
 ghost use Rattle.calendar.specs.Calendar.{leap_year, month_length, date_exists, first_year, last_year, end_year, is_date_until, opens, is_in_reach};
 ghost use Rattle.calendar.specs.Calendar.{total, length_after, months_after, days_after, month_from};
 ghost use Rattle.calendar.specs.Calendar.{saturday, weekday_number, weekday_or_none, weekday_after};
-ghost use Rattle.calendar.specs.Calendar.{next_answer, weekday_answer, month_count, date_answer, weekday_on, month_answer, DayAnswer, MonthAnswer};
+ghost use Rattle.calendar.specs.Calendar.{next_answer, weekday_answer, month_count, date_answer, weekday_on, month_answer, DayAnswer, range_of, MonthAnswer};
 ghost use Rattle.calendar.specs.Work.{days_before, year_length, InMonth, InYear, month_start};
 
 use std::ops::Range;
@@ -58,6 +58,22 @@ impl From<Weekday> for u32 {
 
     fn from(weekday: Weekday) -> u32 {
         weekday as u32
+    }
+}
+
+// Days `from` to the day before `to`.
+#[derive(Clone, Copy, Debug, PartialEq, Eq)]
+pub struct Days {
+    pub from: u32,
+    pub to: u32,
+}
+
+// For what goes through them: a `Range` is no `Copy`.
+impl From<Days> for Range<u32> {
+    ghost from_gives = { λ d r. r ≡ range_of d };
+
+    fn from(days: Days) -> Range<u32> {
+        days.from..days.to
     }
 }
 
@@ -328,12 +344,13 @@ fn month_start(opened: Date, m: u32) -> u32
 }
 
 // The days of month m, counted from the opening month, where it has any.
-pub fn days_of(opened: Date, m: u32) -> Option<Range<u32>>
+pub fn days_of(opened: Date, m: u32) -> Option<Days>
     ensures { MonthAnswer opened m result }
 {
     if !can_open(opened) || m >= MONTH_COUNT {
         return None;
     }
-    let days = month_start(opened, m)..month_start(opened, m + 1);
-    (days.start < days.end).then_some(days)
+    let from = month_start(opened, m);
+    let to = month_start(opened, m + 1);
+    (from < to).then_some(Days { from, to })
 }

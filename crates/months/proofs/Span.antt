@@ -20,7 +20,7 @@ use Rattle.months.specs.Work.{span}
 use Rattle.calendar.proofs.Sums.{any_none}
 use Rattle.months.proofs.Sums.{any_some}
 
-inside : (r : Range ℕ) (k : ℕ) → r.start ≤ k → k < r.end → span r k ≡ true
+pub inside : (r : Range ℕ) (k : ℕ) → r.start ≤ k → k < r.end → span r k ≡ true
 inside r k h g = simp (le-leb r.start k h, lt-ltb k r.end g)
 
 outside : (r : Range ℕ) (k : ℕ) → (r.start ≤ k → k < r.end → ⊥) → span r k ≡ false

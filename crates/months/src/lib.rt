@@ -133,6 +133,7 @@ pub fn summary<A: AsAccount>(a: &A, m: u32) -> Result<Figures, Refusal>
     if !are_in_range(&charges) {
         return Err(Refusal::Terms);
     }
+    let days = Range::from(days);
     let (kept, reversed) = paid_in(a, totals.count, &days);
     let (metered, estimated) = used_in(a, &days);
     let [delivery, tax, ..] = charges;

@@ -63,7 +63,7 @@ pub record Early (t : Terms) (s : Totals) (e : Event) : Type 0 where
   pub reach : InReach t s
   pub terms : Limited t
 
-valid : (t : Terms) → terms_code t ≡ 0 → valid_terms t ≡ true
+pub valid : (t : Terms) → terms_code t ≡ 0 → valid_terms t ≡ true
 unfolding terms_code
 valid t h = grind (arith, nat_tests)
 

@@ -9,7 +9,6 @@ use lib.Seq.{set-get_or}
 use lib.Dec.{eqb}
 use lib.IntN.{pos, ◌-ℤ◌}
 use borrow.Author.Tests.{eqb-true, leb-false}
-use Rattle.marks.specs.Marks.{mark_range, marked}
 use Rattle.marks.proofs.Laws.{marked-length}
 use Rattle.tariff.proofs.Laws.{with_price-length}
 use Rattle.terms.specs.declared.Terms.{Terms}
@@ -26,16 +25,12 @@ use Rattle.moves.specs.declared.Totals.{Totals}
 use Rattle.account.specs.Record.{blank_day, no_payment}
 use Rattle.account.specs.Step.{number_at, usage_at, day_at, cells_of, with_cells}
 use Rattle.account.specs.declared.Account.{Account}
+use Rattle.account.proofs.Written.{marks-left}
 use Rattle.refinement.specs.Agree.{PricesAgree, Agree, recorded_usage, recorded_payment, recorded_marks, warned_on}
 use Rattle.refinement.proofs.Fields.{payments-same, payments-one}
 use Rattle.refinement.proofs.Keeps.{amounts-keep, charged-keep, held-keep, payments-stay, days-stay, marks_stay, warned-stay, charges-stay, prices-stay}
 use Rattle.refinement.proofs.Refusals.{Passes, takes}
 use Rattle.refinement.proofs.Agreed.{Refines, facts, taken, past, standing-is}
-
--- no mark, set
-marks-left : (a : Account) → marked a.marks 0 1 0 ≡ a.marks
-unfolding marked mark_range
-marks-left a = refl
 
 abbrev when : Bool → Type 0 → Type 0 → Type 0
 when true A B = A

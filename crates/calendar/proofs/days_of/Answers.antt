@@ -27,7 +27,7 @@ limit : (o : Date) (m : ℕ) → month_start o m ≤ 400
 unfolding month_start
 limit o m = omega arith
 
-answered : (o : Date) (m : ℕ) → opens o ≡ true → MonthAnswer o m (then_some (ltb (month_start o m) (month_start o (m + 1))) (record { start = month_start o m; end = month_start o (m + 1) }))
+answered : (o : Date) (m : ℕ) → opens o ≡ true → MonthAnswer o m (then_some (ltb (month_start o m) (month_start o (m + 1))) (record { from = month_start o m; to = month_start o (m + 1) }))
 answered o m t = decide (ltb (month_start o m) (month_start o (m + 1)))
     (λ h. simp h (record { order = ltb-true _ _ h; limit = limit o (m + 1); days = span o m; open_is = t }))
     (λ f. simp f (λ k e d. let s = (span o m k e).0 d in omega (arith, ltb-false _ _ f)))
@@ -42,4 +42,4 @@ returns-then-not-can_open c = λ k e d.
     ]
 
 pub returns : goal.returns
-returns c = rw (c.then_some.ensures, c.month_start.ensures, c.month_start-2.ensures) (answered c.args.opened c.args.m (sym c.can_open.ensures ∙ c.if-not-can_open.false))
+returns c = rw (c.then_some.ensures, c.month_start-from.ensures, c.month_start-to.ensures) (answered c.args.opened c.args.m (sym c.can_open.ensures ∙ c.if-not-can_open.false))

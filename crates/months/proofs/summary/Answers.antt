@@ -29,6 +29,6 @@ returns g c =
     let u = c.used_in.ensures in
     let s = c.charges_in-charges.ensures in
     let within = sym c.are_in_range.ensures.all ∙ c.if-not-are_in_range.false in
-    promised _ _ _ (rw (v.value, v.missing, p.kept, p.reversed, u.metered, u.estimated, s, c.totals-totals.ensures, c.charges.ensures)
+    promised _ _ _ (rw (v.value, v.missing, p.kept, p.reversed, u.metered, u.estimated, c.from-days.ensures, s, c.totals-totals.ensures, c.charges.ensures)
     (simp (rw (s, c.charges.ensures) at within) at (summary-some (g.A.AsAccount.account c.args.a.now) _ (cc) _ (rw c.terms-terms.ensures at c.in-Some.ensures))))
     (record { wh = u.bound.0; cost = u.bound.1; charges = within })
