@@ -170,7 +170,7 @@ module _ {M : Type 1} (𝓤 : Ura M) where
     called a (row es buffer) r b = promised _ _ row-promises _ _ (λ x h p. (code_of x.answer, x.left.1.1.0, rw (← h.0, ← h.1, ← h.2, ← h.3) p, h.4))
 
     -- each call gets the account as the call before left it
-    abbrev CallsSay : Account → List Call → List Seen → SProp 𝓤
+    abbrev pub CallsSay : Account → List Call → List Seen → SProp 𝓤
     CallsSay = ListSays rattle CallSays (λ a v. ReadingsSay a.totals v)
 
     -- Demand 3: whatever the contracts leave to be seen of a list of calls, from the account a that `account::open` made, is as demand 3 claims.

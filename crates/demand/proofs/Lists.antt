@@ -111,7 +111,7 @@ call-holds t l c v q b h = record {
 
 -- ---- every list of Rattle calls
 
-calls-hold : (t : Terms) (cs : List Call) (vs : List Seen) (a : Account) (l : Ledger) → Represents t a l → RunsFrom rattle a cs vs
+pub calls-hold : (t : Terms) (cs : List Call) (vs : List Seen) (a : Account) (l : Ledger) → Represents t a l → RunsFrom rattle a cs vs
     → CallsHold t l cs vs
 calls-hold t [] [] a l s q = tt
 calls-hold t [] (v ∷ vs) a l s q = absurd q
