@@ -2,10 +2,10 @@
 use mathlib.Core.Path.{◌≡◌, refl, sym, ap, ◌∙◌}
 use mathlib.Core.Bool.{true, false}
 use mathlib.Core.List.{List, [], ◌∷◌, ◌++◌}
-use Prim.Native.Nat.{ℕ, ◌+◌, ◌%◌, ◌^◌, ◌<◌}
+use Prim.Native.Nat.{ℕ, suc, ◌+◌, ◌%◌, ◌^◌, ◌<◌}
 use native.Mathlib.Omega.{arith}
 use lib.IntN.{ℤ, pos, negsuc}
-use lib.Signed.{lt_z}
+use lib.Signed.{mag, lt_z}
 use borrow.Author.Tests.{ltb-true}
 use Rattle.std.specs.Prelude.{nat_abs}
 use Rattle.std.specs.Fmt as fmt
@@ -18,6 +18,12 @@ decimal_is n h =
     decimal_by_steps (λ (m : ℕ) (ds : List ℕ). ds ≡ decimal m) (λ m l. sym (decimal-low m l))
     (λ m ds l e. ap (λ (xs : List ℕ). xs ++ ((48 + m % 10) ∷ [])) e ∙ sym (decimal-high m l))
     n h
+
+-- a number with a sign, as `itoa` writes it whole
+pub signed_is : (z : ℤ) → mag z < 2 ^ 63 → fmt.signed_decimal z ≡ signed z
+unfolding signed
+signed_is (pos n) h = decimal_is n (omega (arith, h))
+signed_is (negsuc n) h = ap (λ (xs : List ℕ). 45 ∷ xs) (decimal_is (suc n) (omega (arith, h)))
 
 pub minus : (z : ℤ) → lt_z z (pos 0) ≡ true → 45 ∷ decimal (nat_abs z) ≡ signed z
 unfolding signed

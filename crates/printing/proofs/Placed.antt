@@ -7,7 +7,7 @@ use native.Mathlib.Nat.{zero-add}
 use native.Mathlib.Omega.{arith}
 use lib.ListN.{length, drop, length-append}
 use lib.Dec.{ltb, leb}
-use borrow.Author.Tests.{lt-ltb, le-ltb, leb-true}
+use borrow.Author.Tests.{lt-ltb, le-ltb, le-leb, leb-true}
 use Rattle.printing.specs.Printing.{over, Puts, Wrote, Whole}
 use Rattle.printing.specs.Printer.{Prints, Writes}
 use Rattle.printing.specs.declared.Printer.{Printer}
@@ -38,22 +38,34 @@ module _ {p q : Printer} {x : List ℕ} where
   pub printed_then : {y : List ℕ} {r : Printer} → Writes p x q → Writes q y r → Writes p (x ++ y) r
   printed_then w v = record { same = v.same ∙ w.same; wrote = wrote_then w.wrote v.wrote }
 
+-- a word and what follows it, as one
+module _ (p : Printer) (x y : List ℕ) where
+  together : p.at + (length x + length y) ≡ p.at + length (x ++ y)
+  together = ap (λ (k : ℕ). p.at + k) (sym (length-append x y))
+
+  pub both : {q r : Printer} → leb (p.at + (length x + length y)) (length p.out.now) ≡ true → Prints p x q → Prints q y r → Prints p (x ++ y) r
+  both {q} {r} t w v =
+      let h : p.at + (length x + length y) ≤ length p.out.now = leb-true _ _ t in
+      let first : Writes p x q = printed w (omega (arith, h)) in
+      let whole : Writes p (x ++ y) r = printed_then first (printed v (omega (arith, h, first.wrote.next, kept first.wrote))) in
+      record { same = whole.same; puts = puts-all _ _ _ _ _ whole.wrote.room whole.wrote.buffer whole.wrote.next }
+
+  pub neither : leb (p.at + (length x + length y)) (length p.out.now) ≡ false → Prints p (x ++ y) p
+  neither f = record { same = refl; puts = puts-nothing _ _ _ (rw together at f) }
+
 -- a word, a sign and what follows them, as one
 module _ (p : Printer) (x y z : List ℕ) where
-  together : p.at + (length x + length y + length z) ≡ p.at + length (x ++ (y ++ z))
-  together = ap (λ (k : ℕ). p.at + k) (simp length-append (omega arith))
+  joined : p.at + (length x + length y + length z) ≡ p.at + (length x + length (y ++ z))
+  joined = simp length-append (omega arith)
 
   pub all : {q r s : Printer} → leb (p.at + (length x + length y + length z)) (length p.out.now) ≡ true → Prints p x q → Prints q y r → Prints r z s → Prints p (x ++ (y ++ z)) s
   all {q} {r} {s} t w v u =
       let h : p.at + (length x + length y + length z) ≤ length p.out.now = leb-true _ _ t in
       let first : Writes p x q = printed w (omega (arith, h)) in
-      let second : Writes q y r = printed v (omega (arith, h, first.wrote.next, kept first.wrote)) in
-      let third : Writes r z s = printed u (omega (arith, h, first.wrote.next, kept first.wrote, second.wrote.next, kept second.wrote)) in
-      let whole : Writes p (x ++ (y ++ z)) s = printed_then first (printed_then second third) in
-      record { same = whole.same; puts = puts-all _ _ _ _ _ whole.wrote.room whole.wrote.buffer whole.wrote.next }
+      both p x (y ++ z) (rw joined at t) w (both q y z (le-leb _ _ (omega (arith, h, first.wrote.next, kept first.wrote))) v u)
 
   pub none : leb (p.at + (length x + length y + length z)) (length p.out.now) ≡ false → Prints p (x ++ (y ++ z)) p
-  none f = record { same = refl; puts = puts-nothing _ _ _ (rw together at f) }
+  none f = neither p x (y ++ z) (rw joined at f)
 
 -- ---- the last word, the last field, and a word, or a field, and what follows it: whole, and how far they reach, with `most` digits at most and `rest`
 -- bytes at most after them

@@ -9,7 +9,7 @@ use Rattle.std.proofs.lemmas.Option.{cond_some}
 use borrow.Author.Tests.{lt-ltb}
 use lib.Dec.{leb-suc-suc}
 use native.Mathlib.Numerals.{unary_clauses}
-use Rattle.scanner.specs.Scanner.{bytes, Read, got, broken, then, read_line, after_prefix}
+use Rattle.scanner.specs.Scanner.{bytes, Read, got, broken, then, read_line, after_prefix, read_value}
 use Rattle.scanner.specs.Values.{after_key, short}
 
 -- ---- the first line feed
@@ -73,24 +73,64 @@ after_strip (b ∷ p) q [] = refl
 after_strip (b ∷ p) q (c ∷ s) = rw (eqb_comm b c) (byte-turn (eqb c b) (starts p s) _ _ (after_strip p q s))
 
 module _ (key s : List ℕ) where
-  pub no-key : starts key s ≡ false → after_key key s ≡ broken
-  no-key h = simp (after_strip key (bytes "=") s, h)
+  pub after-no-key : starts key s ≡ false → after_key key s ≡ broken
+  after-no-key h = simp (after_strip key (bytes "=") s, h)
 
   module _ (t : List ℕ) (h : starts key s ≡ true) (e : t ≡ drop (length key) s) where
-    pub no-equals : starts (bytes "=") t ≡ false → after_key key s ≡ broken
-    no-equals g = simp (after_strip key (bytes "=") s, h, ← e, after_strip (bytes "=") [] t, g)
+    pub after-no-equals : starts (bytes "=") t ≡ false → after_key key s ≡ broken
+    after-no-equals g = simp (after_strip key (bytes "=") s, h, ← e, after_strip (bytes "=") [] t, g)
 
     pub equals : (v : List ℕ) → starts (bytes "=") t ≡ true → v ≡ drop 1 t → after_key key s ≡ got v []
     unfolding after_prefix
     equals v g f = simp (after_strip key (bytes "=") s, h, ← e, after_strip (bytes "=") [] t, g, ← f)
 
-pub ruleset key_steps = (no-key, no-equals, equals)
+pub ruleset key_steps = (after-no-key, after-no-equals, equals)
 
 -- ---- the line feed, in the bytes in which it is looked for
 
+module _ (looked s : List ℕ) (x : Read (List ℕ)) (l : x ≡ line looked s (first looked)) where
+  found-none : None ≡ position (λ b. eqb b 10) looked → x ≡ broken
+  found-none i = l ∙ cond-false _ _ _ (cond_none _ _ i)
+
+  found-at : (n : ℕ) → Some n ≡ position (λ b. eqb b 10) looked → x ≡ got (take n s) (take (length s - (n + 1)) (drop (n + 1) s))
+  found-at n i = let p = cond_some _ _ _ (sym i) in rw (take_rest, ← p.1) (l ∙ cond-true _ _ _ p.0)
+
 module _ (most : ℕ) (s looked : List ℕ) (k : looked ≡ take most s) where
-  pub no-feed : None ≡ position (λ b. eqb b 10) looked → short most (read_line s) ≡ broken
-  no-feed i = let j : None ≡ position (λ b. eqb b 10) (take most s) = rw (← k) i in line-first most s ∙ cond-false _ _ _ (cond_none _ _ j)
+  short-first : short most (read_line s) ≡ line looked s (first looked)
+  short-first = rw k (line-first most s)
+
+  pub short-no-feed : None ≡ position (λ b. eqb b 10) looked → short most (read_line s) ≡ broken
+  short-no-feed = found-none looked s _ short-first
 
   pub feed-at : (n : ℕ) → Some n ≡ position (λ b. eqb b 10) looked → short most (read_line s) ≡ got (take n s) (take (length s - (n + 1)) (drop (n + 1) s))
-  feed-at n i = let j : position (λ b. eqb b 10) (take most s) ≡ Some n = rw (← k) (sym i) in let p = cond_some _ _ _ j in rw (take_rest, ← p.1) (line-first most s ∙ cond-true _ _ _ p.0)
+  feed-at = found-at looked s _ short-first
+
+-- ---- the value: for those who cite `read_value`
+
+whole-first : (s : List ℕ) → read_line s ≡ line s s (first s)
+unfolding read_line
+whole-first [] = refl
+whole-first (b ∷ s) = feed-turn (eqb b 10) b s s _ (first s) (rw (whole-first s) (line-turn b (first s) s s))
+
+module _ (key s : List ℕ) where
+  pub no-key : starts key s ≡ false → read_value key s ≡ broken
+  unfolding read_value
+  no-key h = simp (after-no-key key s h)
+
+  module _ (t : List ℕ) (h : starts key s ≡ true) (e : t ≡ drop (length key) s) where
+    pub no-equals : starts (bytes "=") t ≡ false → read_value key s ≡ broken
+    unfolding read_value
+    no-equals g = simp (after-no-equals key s t h e g)
+
+    module _ (v : List ℕ) (g : starts (bytes "=") t ≡ true) (f : v ≡ drop 1 t) where
+      value-first : read_value key s ≡ line v v (first v)
+      unfolding read_value
+      value-first = simp (equals key s t h e v g f) (whole-first v)
+
+      pub no-feed : None ≡ position (λ b. eqb b 10) v → read_value key s ≡ broken
+      no-feed = found-none v v _ value-first
+
+      pub value-line : (n : ℕ) → Some n ≡ position (λ b. eqb b 10) v → read_value key s ≡ got (take n v) (take (length v - (n + 1)) (drop (n + 1) v))
+      value-line = found-at v v _ value-first
+
+pub ruleset value_steps = (no-key, no-equals)
